@@ -1,6 +1,6 @@
 //! A byte-order mark at the front of a file.
 
-ghost use Rattle.std.specs.Prelude.{◌≡◌, ◌&&◌, IfErr, IfOk, OnOk, string_bytes};
+ghost use Rattle.std.specs.Prelude.{◌≡◌, ◌&&◌, IfErr, IfOk, OnOk};
 ghost use Rattle.timefd_lint.specs.Causes.{IsCausedBy};
 ghost use Rattle.timefd_lint.specs.Marks.{Notes, has_mark};
 ghost use Rattle.timefd_lint.specs.Marks as spec;
@@ -9,12 +9,7 @@ use crate::line::{LintError, write};
 use crate::options::RunOptions;
 use std::alloc::{AllocError, Global};
 use timefd_bin_streams::Sink;
-use timefd_lang_warnings::Level;
-use timefd_lint_drawing::github::{Command, annotation};
-use timefd_lint_drawing::json::{Entry, note_object};
-use timefd_lint_drawing::sarif::note_result;
-use timefd_lint_drawing::{Format, Origin, Style, note};
-use timefd_lint_warnings::{head, position};
+use timefd_lint_drawing::{Origin, FindingSeverity, Style, note_as};
 
 // The code of the note.
 const CODE: &str = "byte-order-mark";
@@ -53,30 +48,5 @@ pub fn note_mark<W: Sink>(
 fn warning(alloc: Global, style: Style, origin: Origin<'_>) -> Result<Vec<u8>, AllocError>
     ensures { IfOk result (λ message. message.items ≡ spec.mark_note style origin.entry) }
 {
-    let entry = Entry {
-        code: CODE,
-        file: origin.file,
-        line: origin.line,
-        column: 1,
-        message: SENTENCE,
-    };
-    match style.format {
-        Format::Human => {
-            let drawing = human(alloc, style.is_colored, origin)?;
-            Ok(drawing.into_bytes())
-        }
-        Format::Github => annotation(alloc, Command::Warning, entry),
-        Format::Json => note_object(alloc, entry, "warning"),
-        Format::Sarif => note_result(alloc, entry, "warning"),
-        Format::Short => note(alloc, style, origin, CODE, SENTENCE),
-    }
-}
-
-fn human(alloc: Global, is_colored: bool, origin: Origin<'_>) -> Result<String, AllocError>
-    ensures { IfOk result (λ drawing. string_bytes drawing
-        ≡ spec.human_note is_colored origin.entry) }
-{
-    let head = head(alloc, is_colored, Level::Warned, CODE, SENTENCE)?;
-    let position = position(alloc, is_colored, origin, 1)?;
-    format!(in alloc; "{head}{position}\n")
+    note_as(alloc, FindingSeverity::Warning, style, origin, CODE, SENTENCE)
 }

@@ -4,6 +4,6 @@ pub mod PositionLemmas
 pub mod CounterLemmas
 pub mod DrawLemmas
 pub mod JsonLemmas
-pub mod SarifLemmas
+pub mod FindingLemmas
 pub mod GithubLemmas
 pub mod RowLemmas

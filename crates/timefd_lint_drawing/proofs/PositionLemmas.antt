@@ -7,6 +7,7 @@ use Rattle.std.specs.List.{list_any}
 use Rattle.std.specs.Str.{NoCharPasses}
 use Rattle.std.specs.Str.Pattern.{RFindsChar, SplitsAroundMatch}
 use Rattle.timefd_lang_component.specs.Tree.{Text}
+use Rattle.timefd_lint_drawing.specs.declared.position.Position.{Position}
 use Rattle.timefd_lint_drawing.specs.Positions.{is_newline, last_line}
 
 none_of : (text : Text) → ((i : ℕ) → i < length text → get_or text i 0 ≢ 10)
@@ -50,3 +51,11 @@ after_last text front line k =
 
 pub without_newline : (text : Text) → NoCharPasses is_newline text → text ≡ last_line text
 without_newline text none = sym (alone text (none_in text none))
+
+-- A position is its line and its column.
+abbrev pub at_both : ℕ → ℕ → Position
+at_both line column = record { line = line; column = column }
+
+pub position_of_both : (line column number count : ℕ) → line ≡ number → column ≡ count
+    → at_both line column ≡ at_both number count
+position_of_both line column number count l c = rw l (rw c refl)

@@ -1,10 +1,9 @@
 -- Texts as JSON writes them.
-use Rattle.std.specs.Prelude.{ℕ, ◌+◌, ◌-◌, ◌/◌, ◌%◌, Bool, true, false, ◌||◌, ◌==◌, [], ◌∷◌, ◌++◌, Option, None, Some, chars, codes, decimal, encode_utf8, flat_map, nat_lt, option_map, if◌then◌else◌}
+use Rattle.std.specs.Prelude.{ℕ, ◌+◌, ◌-◌, ◌/◌, ◌%◌, Bool, true, false, ◌||◌, ◌==◌, [], ◌∷◌, ◌++◌, Option, None, Some, chars, codes, decimal, encode_utf8, flat_map, nat_lt, if◌then◌else◌}
 use Rattle.std.specs.Char.Escape.{encode_utf16}
 use Rattle.std.specs.Str.{IsUtf8, NonePass}
 use Rattle.timefd_lang_component.specs.Tree.{Text}
-use Rattle.timefd_lint_drawing.specs.declared.json.Entry.{Entry}
-use Rattle.timefd_lint_drawing.specs.declared.json.Detail.{Detail}
+use Rattle.timefd_lint_diagnosis.specs.declared.span.Span.{Span}
 use Rattle.timefd_lint_drawing.specs.Shown.{is_hidden, is_printable}
 
 abbrev pub hex_digit : ℕ → ℕ
@@ -45,41 +44,33 @@ text_field front text = front ++ quoted text
 abbrev pub number_field : Text → ℕ → Text
 number_field front number = front ++ decimal number
 
--- The word to write instead of the one at fault, if one is near.
-abbrev pub replacement_field : Option Text → Text
-replacement_field None = []
-replacement_field (Some word) = text_field (codes ",\"replacement\":") word
+-- A field that is left out if there is no text.
+abbrev pub field_if_any : Text → Option Text → Text
+field_if_any front None = []
+field_if_any front (Some text) = text_field front text
+
+-- The fields that only a finding in a part of a text has.
+abbrev pub end_field : Option Span → Text
+end_field None = []
+end_field (Some span) = number_field (codes ",\"end\":") span.end
+
+abbrev pub start_field : Option Span → Text
+start_field None = []
+start_field (Some span) = number_field (codes ",\"start\":") span.start
 
 -- The field that only a further fault has.
 abbrev pub further_field : Bool → Text
 further_field true = codes ",\"further\":true"
 further_field false = []
 
--- An object for a fault of a text, and one for when no text was looked at.
-abbrev pub object : Bool → Text → Text → ℕ → ℕ → Text → ℕ → ℕ → Text → Option Text → Text
-object further code file line column message start end help replacement =
+-- An object on a line.
+abbrev pub object : Option Span → Bool → Text → Text → ℕ → ℕ → Text → Option Text → Option Text → Text → Text
+object bytes further code file line column message help replacement severity =
     [] ++ text_field (codes "{\"code\":") code ++ number_field (codes ",\"column\":") column
-    ++ number_field (codes ",\"end\":") end ++ text_field (codes ",\"file\":") file
-    ++ further_field further
-    ++ text_field (codes ",\"help\":") help ++ number_field (codes ",\"line\":") line
-    ++ text_field (codes ",\"message\":") message ++ replacement_field replacement
-    ++ text_field (codes ",\"severity\":") (codes "error") ++ number_field (codes ",\"start\":") start ++ codes "}\n"
-
-abbrev pub note_object : Text → Text → ℕ → ℕ → Text → Text → Text
-note_object code file line column message severity =
-    [] ++ text_field (codes "{\"code\":") code ++ number_field (codes ",\"column\":") column
-    ++ text_field (codes ",\"file\":") file ++ number_field (codes ",\"line\":") line
-    ++ text_field (codes ",\"message\":") message ++ text_field (codes ",\"severity\":") severity
-    ++ codes "}\n"
-
-abbrev pub object_of : Entry → Detail → Text
-object_of e d =
-    object d.is_further e.code.now e.file.now e.line e.column e.message.now d.start d.end d.help.now
-    (option_map (λ word. word.now) d.replacement)
-
-abbrev pub note_object_of : Entry → Text → Text
-note_object_of e severity =
-    note_object e.code.now e.file.now e.line e.column e.message.now severity
+    ++ end_field bytes ++ text_field (codes ",\"file\":") file ++ further_field further
+    ++ field_if_any (codes ",\"help\":") help ++ number_field (codes ",\"line\":") line
+    ++ text_field (codes ",\"message\":") message ++ field_if_any (codes ",\"replacement\":") replacement
+    ++ text_field (codes ",\"severity\":") severity ++ start_field bytes ++ codes "}\n"
 
 -- No character of a text in quotes is hidden.
 abbrev pub NoneIsHiddenInJson : Type 0

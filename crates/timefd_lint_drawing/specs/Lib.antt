@@ -8,4 +8,7 @@ pub mod Counted
 pub mod HelpText
 pub mod Sentence
 pub mod Lines
+pub mod Severities
+pub mod Sources
+pub mod Findings
 pub mod Drawing

@@ -3,6 +3,8 @@ use Rattle.std.specs.Prelude.{ℕ, Bool, true, false, [], ◌∷◌, ◌++◌, c
 use Rattle.timefd_lang_component.specs.Tree.{Text}
 use Rattle.timefd_lint_drawing.specs.Shown.{safe}
 use Rattle.timefd_lint_drawing.specs.declared.lines.Paint.{Paint}
+use Rattle.timefd_lint_drawing.specs.declared.severity.FindingSeverity.{FindingSeverity}
+use Rattle.timefd_lint_drawing.specs.Severities.{paint, word}
 
 -- The bytes that begin a colour, and those that end it.
 abbrev pub begin : Bool → Paint → Text
@@ -16,10 +18,10 @@ plain true = 27 ∷ codes "[0m"
 plain false = []
 
 -- `error[CODE]: SENTENCE`
-abbrev pub error_line : Bool → Text → Text → Text
-error_line colored code sentence =
-    begin colored Paint.Red ++ (codes "error[" ++ (code ++ (codes "]" ++ (plain colored ++ (codes ": "
-    ++ (sentence ++ codes "\n"))))))
+abbrev pub head : Bool → FindingSeverity → Text → Text → Text
+head colored severity code sentence =
+    begin colored (paint severity) ++ (word severity ++ (codes "[" ++ (code ++ (codes "]"
+    ++ (plain colored ++ (codes ": " ++ (sentence ++ codes "\n")))))))
 
 -- What comes before the file.
 abbrev pub arrow : Bool → Text → Text
@@ -70,9 +72,3 @@ note_line colored margin =
 abbrev pub help_lines : Bool → Bool → Text → Text → Text
 help_lines false colored margin help = help_line colored margin help
 help_lines true colored margin help = help_line colored margin help ++ note_line colored margin
-
--- `FILE:LINE:COLUMN: SENTENCE`
-abbrev pub short_line : Text → ℕ → ℕ → Text → Text
-short_line file line column sentence =
-    safe file ++ (codes ":" ++ (decimal line ++ (codes ":" ++ (decimal column ++ (codes ": "
-    ++ (sentence ++ codes "\n"))))))

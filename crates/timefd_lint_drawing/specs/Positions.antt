@@ -6,6 +6,7 @@ use Rattle.timefd_lang_component.specs.Tree.{Text}
 use Rattle.timefd_lint_diagnosis.specs.declared.span.Span.{Span}
 use Rattle.timefd_lint_drawing.specs.declared.draw.Format.{Format}
 use Rattle.timefd_lint_drawing.specs.declared.draw.Format.TheVariants.{Human, Json, Short, Github, Sarif}
+use Rattle.timefd_lint_drawing.specs.declared.position.Position.{Position}
 use Rattle.timefd_lint_drawing.specs.Shown.{safe}
 
 -- Whether a byte continues a character that an earlier one begins.
@@ -61,6 +62,13 @@ reported_column Json text at = column text at
 reported_column Short text at = column text at
 reported_column Github text at = column text at
 reported_column Sarif text at = char_column text at
+
+-- The position of an index, as the form reports it, if the text begins in line `first`.
+abbrev pub reported_position : Format → ℕ → Text → ℕ → Position
+reported_position format first text at = record {
+  line = line_number first text at;
+  column = reported_column format text at;
+}
 
 -- A span, as far as it is in the line that it begins in, and what follows it in that line.
 abbrev pub spanned : Span → Text → Text

@@ -1,9 +1,7 @@
 -- SARIF results.
-use Rattle.std.specs.Prelude.{ℕ, ◌+◌, ◌-◌, ◌/◌, ◌%◌, Bool, true, false, ◌||◌, ◌==◌, [], ◌∷◌, ◌++◌, Option, None, Some, codes, drop, flat_map, nat_eq, nat_lt, option_map, if◌then◌else◌}
+use Rattle.std.specs.Prelude.{ℕ, ◌+◌, ◌-◌, ◌/◌, ◌%◌, Bool, true, false, ◌||◌, ◌==◌, [], ◌∷◌, ◌++◌, Option, None, Some, codes, drop, flat_map, nat_eq, nat_lt, if◌then◌else◌}
 use Rattle.std.specs.List.{starts_with}
 use Rattle.timefd_lang_component.specs.Tree.{Text}
-use Rattle.timefd_lint_drawing.specs.declared.json.Entry.{Entry}
-use Rattle.timefd_lint_drawing.specs.declared.sarif.FaultResult.{FaultResult}
 use Rattle.timefd_lint_drawing.specs.Json.{text_field, number_field}
 use Rattle.timefd_lint_drawing.specs.Shown.{is_between}
 
@@ -66,30 +64,13 @@ begun code file line column message level =
     ++ number_field (codes "\"},\"region\":{\"startLine\":") line
     ++ number_field (codes ",\"startColumn\":") column
 
--- A result for a fault of a text, and one for a whole text or a file.
-abbrev pub result : Bool → Text → Text → ℕ → ℕ → ℕ → ℕ → Text → Text → Option Text → Text
-result further code file line column end_line end_column message help replacement =
-    begun code file line column message (codes "error") ++ number_field (codes ",\"endLine\":") end_line
+-- A result with the end of the part, and one without it.
+abbrev pub result : Bool → Text → Text → ℕ → ℕ → ℕ → ℕ → Text → Text → Option Text → Text → Text
+result further code file line column end_line end_column message help replacement level =
+    begun code file line column message level ++ number_field (codes ",\"endLine\":") end_line
     ++ number_field (codes ",\"endColumn\":") end_column ++ codes "}}}]"
     ++ fixes file line column end_line end_column help replacement ++ further_field further ++ codes "}\n"
 
 abbrev pub note_result : Text → Text → ℕ → ℕ → Text → Text → Text
 note_result code file line column message level =
     begun code file line column message level ++ codes "}}}]}\n"
-
-abbrev pub begun_of : Entry → Text → Text
-begun_of e level = begun e.code.now e.file.now e.line e.column e.message.now level
-
-abbrev pub fixes_of : Entry → FaultResult → Text
-fixes_of e f = fixes e.file.now e.line e.column f.end_line f.end_column f.help.now
-    (option_map (λ word. word.now) f.replacement)
-
-abbrev pub fix_of : Entry → FaultResult → Text → Text
-fix_of e f word = fix e.file.now e.line e.column f.end_line f.end_column f.help.now word
-
-abbrev pub result_of : Entry → FaultResult → Text
-result_of e f = result f.is_further e.code.now e.file.now e.line e.column f.end_line f.end_column e.message.now
-    f.help.now (option_map (λ word. word.now) f.replacement)
-
-abbrev pub note_result_of : Entry → Text → Text
-note_result_of e level = note_result e.code.now e.file.now e.line e.column e.message.now level

@@ -1,21 +1,18 @@
 //! Writes diagnostics in the form that is asked for.
 
-ghost use Rattle.std.specs.Prelude.{◌≡◌, ◌≢◌, ◌++◌, [], flat_map, IfOk, OnOk, string_bytes};
+ghost use Rattle.std.specs.Prelude.{◌≡◌, ◌≢◌, ◌++◌, [], Some, flat_map, IfOk, OnOk, option_map, string_bytes};
 ghost use Rattle.timefd_lint_drawing.specs.Counted.{IsCounted};
 ghost use Rattle.timefd_lint_drawing.specs.Drawing as spec;
+ghost use Rattle.timefd_lint_drawing.specs.Findings.{located_of, said_of};
 
-use crate::as_sarif::sarif;
 use crate::counter::{Counter, none_counted};
-use crate::github::{Command, annotation, span_annotation};
+use crate::finding::{FindingKind, FindingLocation, FindingWords, drawn_at, is_further};
 use crate::help_text::help_text;
-use crate::human::human;
-use crate::json::{Detail, Entry, note_object, object};
-use crate::lines::{push_error_line, push_position_line, short_line};
-use crate::position::{Origin, Position, position_from};
-use crate::sarif::{note_result, with_help};
-use crate::sentence::reported_sentence;
+use crate::position::{Origin, Position, line_of, reported_position_from};
+use crate::sentence::{reported_sentence, shown_sentence};
+use crate::severity::FindingSeverity;
 use std::alloc::{AllocError, Global};
-use timefd_lint_diagnosis::{Diagnostic, code_of};
+use timefd_lint_diagnosis::{Diagnostic, Span, code_of};
 
 /// How a diagnostic is written.
 #[derive(Clone, Copy)]
@@ -54,23 +51,15 @@ pub fn drawn(
     ensures some { IfOk result (λ message. message.items ≢ []) }
 {
     let from = none_counted(origin.line);
-    drawn_as(alloc, false, style, origin, text, from, diagnostic)
-}
-
-// The diagnostic, marked as one that was found with the errors before it left out.
-fn drawn_further(
-    alloc: Global,
-    style: Style,
-    origin: Origin<'_>,
-    text: &str,
-    from: Counter,
-    diagnostic: &Diagnostic,
-) -> Result<Vec<u8>, AllocError>
-    requires { IsCounted origin.line text.now from }
-    ensures { IfOk result (λ message. message.items
-        ≡ spec.drawn_further style origin.entry text.now diagnostic.now) }
-{
-    drawn_as(alloc, true, style, origin, text, from, diagnostic)
+    drawn_as(
+        alloc,
+        FindingKind::Fault,
+        style,
+        origin,
+        text,
+        from,
+        diagnostic,
+    )
 }
 
 /// The first diagnostic of a text, and after it each further one. An `Err` says that memory ran out.
@@ -103,7 +92,15 @@ pub fn drawn_all_from(
     ensures { IfOk result (λ message. message.items
         ≡ spec.drawn_all style origin.entry text.now diagnostic.now further.now) }
 {
-    let mut message = drawn_as(alloc, false, style, origin, text, from, diagnostic)?;
+    let mut message = drawn_as(
+        alloc,
+        FindingKind::Fault,
+        style,
+        origin,
+        text,
+        from,
+        diagnostic,
+    )?;
     push_further(alloc, style, origin, text, from, further, &mut message)?;
     Ok(message)
 }
@@ -122,7 +119,15 @@ fn push_further(
         ++ flat_map (spec.drawn_further style origin.entry text.now) further.now) }
 {
     for diagnostic in further {
-        let more = drawn_further(alloc, style, origin, text, from, diagnostic)?;
+        let more = drawn_as(
+            alloc,
+            FindingKind::Further,
+            style,
+            origin,
+            text,
+            from,
+            diagnostic,
+        )?;
         message.extend_from_slice(&more)?;
     }
     Ok(())
@@ -130,7 +135,7 @@ fn push_further(
 
 fn drawn_as(
     alloc: Global,
-    is_further: bool,
+    kind: FindingKind,
     style: Style,
     origin: Origin<'_>,
     text: &str,
@@ -139,112 +144,115 @@ fn drawn_as(
 ) -> Result<Vec<u8>, AllocError>
     requires { IsCounted origin.line text.now from }
     ensures exact { IfOk result (λ message. message.items
-        ≡ spec.drawn_as is_further style origin.entry text.now diagnostic.now) }
+        ≡ spec.drawn_as kind style origin.entry text.now diagnostic.now) }
     ensures some { IfOk result (λ message. message.items ≢ []) }
 {
-    match style.format {
-        Format::Human => {
-            let drawing = human(
-                alloc,
-                is_further,
-                style.is_colored,
-                origin,
-                text,
-                from,
-                diagnostic,
-            )?;
-            Ok(drawing.into_bytes())
+    let end = fault_end(alloc, style.format, origin, text, from, diagnostic.span.end)?;
+    let location = part_at(
+        alloc,
+        end,
+        style.format,
+        origin,
+        text,
+        from,
+        diagnostic.span,
+    )?;
+    let message = sentence_in(alloc, style.format, kind, diagnostic)?;
+    let help = help_text(alloc, diagnostic.help)?;
+    let finding = FindingWords {
+        severity: FindingSeverity::Error,
+        kind,
+        code: code_of(diagnostic),
+        message: &message,
+        help: Some(&help),
+        replacement: diagnostic.help.nearest(),
+    };
+    drawn_at(alloc, style, location, finding)
+}
+
+// The position of what follows a fault, if the form has it.
+fn fault_end(
+    alloc: Global,
+    format: Format,
+    origin: Origin<'_>,
+    text: &str,
+    from: Counter,
+    index: usize,
+) -> Result<Option<Position>, AllocError>
+    requires { IsCounted origin.line text.now from }
+    ensures { IfOk result (λ end. end ≡ spec.fault_end format origin.entry text.now index) }
+{
+    match format {
+        Format::Human | Format::Json | Format::Short => Ok(None),
+        Format::Github | Format::Sarif => {
+            let end = reported_position_from(alloc, format, origin.line, text, from, index)?;
+            Ok(Some(end))
         }
-        Format::Short => {
-            let line = short(alloc, is_further, origin, text, from, diagnostic)?;
-            Ok(line.into_bytes())
-        }
-        Format::Json => json(alloc, is_further, origin, text, from, diagnostic),
-        Format::Github => github(alloc, is_further, origin, text, from, diagnostic),
-        Format::Sarif => sarif(alloc, is_further, origin, text, from, diagnostic),
     }
 }
 
-fn short(
+/// The position of what follows a part of a format of another language, if the form has it. An `Err` says that memory ran out.
+pub fn part_end(
     alloc: Global,
-    is_further: bool,
+    format: Format,
     origin: Origin<'_>,
     text: &str,
     from: Counter,
+    index: usize,
+) -> Result<Option<Position>, AllocError>
+    requires { IsCounted origin.line text.now from }
+    ensures { IfOk result (λ end. end ≡ spec.part_end format origin.entry text.now index) }
+{
+    match format {
+        Format::Human | Format::Json | Format::Short | Format::Sarif => Ok(None),
+        Format::Github => {
+            let end = reported_position_from(alloc, format, origin.line, text, from, index)?;
+            Ok(Some(end))
+        }
+    }
+}
+
+/// Where a part of a text is. `from` says how far the lines of the text are counted. An `Err` says that memory ran out.
+pub fn part_at<'f, 't>(
+    alloc: Global,
+    end: Option<Position>,
+    format: Format,
+    origin: Origin<'f>,
+    text: &'t str,
+    from: Counter,
+    span: Span,
+) -> Result<FindingLocation<'f, 't>, AllocError>
+    requires { IsCounted origin.line text.now from }
+    ensures { IfOk result (λ location. located_of location
+        ≡ spec.part_at end format origin.entry text.entry.now span) }
+{
+    let start = reported_position_from(alloc, format, origin.line, text, from, span.start)?;
+    Ok(FindingLocation {
+        file: origin.file,
+        start,
+        end,
+        bytes: Some(span),
+        line: Some(line_of(text, span)),
+    })
+}
+
+// The sentence of a fault, as the form shows it.
+fn sentence_in(
+    alloc: Global,
+    format: Format,
+    kind: FindingKind,
     diagnostic: &Diagnostic,
 ) -> Result<String, AllocError>
-    requires { IsCounted origin.line text.now from }
-    ensures { IfOk result (λ line. string_bytes line
-        ≡ spec.short is_further origin.entry text.now diagnostic.now) }
+    ensures { IfOk result (λ sentence. string_bytes sentence
+        ≡ spec.sentence_in format kind diagnostic.now) }
 {
-    let position = position_from(alloc, origin.line, text, from, diagnostic.span.start)?;
-    let sentence = reported_sentence(alloc, is_further, &diagnostic.fault)?;
-    short_line(alloc, origin.file, position, &sentence)
-}
-
-fn github(
-    alloc: Global,
-    is_further: bool,
-    origin: Origin<'_>,
-    text: &str,
-    from: Counter,
-    diagnostic: &Diagnostic,
-) -> Result<Vec<u8>, AllocError>
-    requires { IsCounted origin.line text.now from }
-    ensures { IfOk result (λ line. line.items
-        ≡ spec.github is_further origin.entry text.now diagnostic.now) }
-{
-    let start = position_from(alloc, origin.line, text, from, diagnostic.span.start)?;
-    let end = position_from(alloc, origin.line, text, from, diagnostic.span.end)?;
-    let sentence = reported_sentence(alloc, is_further, &diagnostic.fault)?;
-    let help = help_text(alloc, diagnostic.help)?;
-    let message = with_help(alloc, &sentence, &help)?;
-    let entry = Entry {
-        code: code_of(diagnostic),
-        file: origin.file,
-        line: start.line,
-        column: start.column as u64,
-        message: &message,
-    };
-    span_annotation(alloc, Command::Error, entry, end)
-}
-
-fn json(
-    alloc: Global,
-    is_further: bool,
-    origin: Origin<'_>,
-    text: &str,
-    from: Counter,
-    diagnostic: &Diagnostic,
-) -> Result<Vec<u8>, AllocError>
-    requires { IsCounted origin.line text.now from }
-    ensures { IfOk result (λ object. object.items
-        ≡ spec.json is_further origin.entry text.now diagnostic.now) }
-{
-    let Position { line, column } = position_from(
-        alloc,
-        origin.line,
-        text,
-        from,
-        diagnostic.span.start,
-    )?;
-    let message = format!(in alloc; "{}", diagnostic.fault)?;
-    let help = help_text(alloc, diagnostic.help)?;
-    let entry = Entry {
-        code: code_of(diagnostic),
-        file: origin.file,
-        line,
-        column: column as u64,
-        message: &message,
-    };
-    let detail = Detail {
-        start: diagnostic.span.start as u64,
-        end: diagnostic.span.end as u64,
-        help: &help,
-        replacement: diagnostic.help.nearest(),
-        is_further,
-    };
-    object(alloc, entry, detail)
+    match format {
+        Format::Human => shown_sentence(alloc, &diagnostic.fault),
+        Format::Short | Format::Github => {
+            reported_sentence(alloc, is_further(kind), &diagnostic.fault)
+        }
+        Format::Json | Format::Sarif => format!(in alloc; "{}", diagnostic.fault),
+    }
 }
 
 /// What is wrong with a file or a line in which no description was looked for. An `Err` says that memory ran
@@ -260,53 +268,39 @@ pub fn note(
         ≡ spec.note style origin.entry code.now message.now) }
     ensures some { IfOk result (λ note. note.items ≢ []) }
 {
-    let position = Position {
-        line: origin.line,
-        column: 1,
-    };
-    let entry = Entry {
-        code,
-        file: origin.file,
-        line: position.line,
-        column: position.column as u64,
-        message,
-    };
-    match style.format {
-        Format::Human => {
-            let drawing = human_note(
-                alloc,
-                style.is_colored,
-                origin.file,
-                position,
-                code,
-                message,
-            )?;
-            Ok(drawing.into_bytes())
-        }
-        Format::Short => {
-            let line = short_line(alloc, origin.file, position, message)?;
-            Ok(line.into_bytes())
-        }
-        Format::Json => note_object(alloc, entry, "error"),
-        Format::Github => annotation(alloc, Command::Error, entry),
-        Format::Sarif => note_result(alloc, entry, "error"),
-    }
+    note_as(alloc, FindingSeverity::Error, style, origin, code, message)
 }
 
-fn human_note(
+/// A note of this severity on a file or a line. An `Err` says that memory ran out.
+pub fn note_as(
     alloc: Global,
-    is_colored: bool,
-    file: &str,
-    position: Position,
+    severity: FindingSeverity,
+    style: Style,
+    origin: Origin<'_>,
     code: &str,
     message: &str,
-) -> Result<String, AllocError>
-    ensures { IfOk result (λ drawing. string_bytes drawing
-        ≡ spec.human_note is_colored file.now position.line position.column code.now message.now) }
+) -> Result<Vec<u8>, AllocError>
+    ensures exact { IfOk result (λ note. note.items
+        ≡ spec.note_as severity style origin.entry code.now message.now) }
+    ensures some { IfOk result (λ note. note.items ≢ []) }
 {
-    let mut out = String::new(alloc);
-    push_error_line(&mut out, is_colored, code, message)?;
-    push_position_line(alloc, &mut out, is_colored, " ", file, position)?;
-    out.push_str("\n")?;
-    Ok(out)
+    let location = FindingLocation {
+        file: origin.file,
+        start: Position {
+            line: origin.line,
+            column: 1,
+        },
+        end: None,
+        bytes: None,
+        line: None,
+    };
+    let finding = FindingWords {
+        severity,
+        kind: FindingKind::Fault,
+        code,
+        message,
+        help: None,
+        replacement: None,
+    };
+    drawn_at(alloc, style, location, finding)
 }

@@ -1,88 +1,69 @@
 //! Annotations, as GitHub reads them in the output of a workflow step.
 
-ghost use Rattle.std.specs.Prelude.{◌≡◌, ◌≢◌, ◌++◌, [], IfOk, OnOk};
+ghost use Rattle.std.specs.Prelude.{◌≡◌, ◌++◌, IfOk, OnOk};
+ghost use Rattle.timefd_lint_drawing.specs.Findings.{located_of, said_of};
+ghost use Rattle.timefd_lint_drawing.specs.Findings as findings;
 ghost use Rattle.timefd_lint_drawing.specs.Github as spec;
 
-use crate::json::{Entry, push_number};
+use crate::finding::{FindingLocation, FindingWords, described};
+use crate::json::push_number;
 use crate::position::Position;
+use crate::severity::command;
 use crate::shown::safe;
 use std::alloc::{AllocError, Global};
 
-/// The workflow command that makes an annotation.
-#[derive(Clone, Copy)]
-pub enum Command {
-    Error,
-    Warning,
-    Notice,
-}
-
-/// An annotation on a line: `::COMMAND file=FILE,line=LINE,col=COLUMN,title=CODE::MESSAGE`. The file's name
-/// is made safe for a terminal. An `Err` says that memory ran out.
-pub fn annotation(alloc: Global, command: Command, entry: Entry<'_>) -> Result<Vec<u8>, AllocError>
-    ensures exact { IfOk result (λ line. line.items ≡ spec.annotation_of command entry.entry) }
-    ensures some { IfOk result (λ line. line.items ≢ []) }
-{
-    let file = safe(alloc, entry.file)?;
-    let mut out = Vec::new(alloc);
-    out.extend_from_slice(opening(command).as_bytes())?;
-    push_property(&mut out, " file=", &file)?;
-    push_number(alloc, &mut out, ",line=", entry.line)?;
-    push_number(alloc, &mut out, ",col=", entry.column)?;
-    push_property(&mut out, ",title=", entry.code)?;
-    out.extend_from_slice(b"::")?;
-    push_message(&mut out, entry.message)?;
-    out.extend_from_slice(b"\n")?;
-    Ok(out)
-}
-
-/// An annotation on a part of a text, where `end` is the position of what follows the part:
-/// `::COMMAND file=FILE,line=LINE,endLine=LINE,col=COLUMN,endColumn=COLUMN,title=CODE::MESSAGE`. An `Err` says
-/// that memory ran out.
-pub fn span_annotation(
+/// A finding as an annotation on a line, where the ends are there if the part has one:
+/// `::COMMAND file=FILE,line=LINE,endLine=LINE,col=COLUMN,endColumn=COLUMN,title=CODE::MESSAGE`. The file's name is made safe
+/// for a terminal. An `Err` says that memory ran out.
+pub fn annotation(
     alloc: Global,
-    command: Command,
-    entry: Entry<'_>,
-    end: Position,
+    location: FindingLocation<'_, '_>,
+    finding: FindingWords<'_, '_>,
 ) -> Result<Vec<u8>, AllocError>
-    ensures exact { IfOk result (λ line. line.items
-        ≡ spec.span_annotation_of command entry.entry end.line end.column) }
-    ensures some { IfOk result (λ line. line.items ≢ []) }
+    ensures { IfOk result (λ line. line.items
+        ≡ findings.github (located_of location.entry) (said_of finding.entry)) }
 {
-    let file = safe(alloc, entry.file)?;
+    let file = safe(alloc, location.file)?;
+    let message = described(alloc, finding)?;
     let mut out = Vec::new(alloc);
-    out.extend_from_slice(opening(command).as_bytes())?;
+    out.extend_from_slice(command(finding.severity).as_bytes())?;
     push_property(&mut out, " file=", &file)?;
-    push_lines(alloc, &mut out, entry.line, end.line)?;
-    push_columns(alloc, &mut out, entry.column, end.column as u64)?;
-    push_property(&mut out, ",title=", entry.code)?;
+    push_lines(alloc, &mut out, location.start, location.end)?;
+    push_columns(alloc, &mut out, location.start, location.end)?;
+    push_property(&mut out, ",title=", finding.code)?;
     out.extend_from_slice(b"::")?;
-    push_message(&mut out, entry.message)?;
+    push_message(&mut out, &message)?;
     out.extend_from_slice(b"\n")?;
     Ok(out)
 }
 
-fn push_lines(alloc: Global, out: &mut Vec<u8>, line: u64, end: u64) -> Result<(), AllocError>
-    ensures { OnOk result (out.new.items ≡ out.old.items ++ spec.line_fields line end) }
+fn push_lines(
+    alloc: Global,
+    out: &mut Vec<u8>,
+    start: Position,
+    end: Option<Position>,
+) -> Result<(), AllocError>
+    ensures { OnOk result (out.new.items ≡ out.old.items ++ spec.line_fields start end) }
 {
-    push_number(alloc, out, ",line=", line)?;
-    push_number(alloc, out, ",endLine=", end)
+    push_number(alloc, out, ",line=", start.line)?;
+    match end {
+        Some(end) => push_number(alloc, out, ",endLine=", end.line),
+        None => Ok(()),
+    }
 }
 
-fn push_columns(alloc: Global, out: &mut Vec<u8>, column: u64, end: u64) -> Result<(), AllocError>
-    ensures { OnOk result (out.new.items ≡ out.old.items ++ spec.column_fields column end) }
+fn push_columns(
+    alloc: Global,
+    out: &mut Vec<u8>,
+    start: Position,
+    end: Option<Position>,
+) -> Result<(), AllocError>
+    ensures { OnOk result (out.new.items ≡ out.old.items ++ spec.column_fields start end) }
 {
-    push_number(alloc, out, ",col=", column)?;
-    push_number(alloc, out, ",endColumn=", end)
-}
-
-// How the line of a command begins.
-fn opening(command: Command) -> &'static str
-    ensures { result.now ≡ spec.opening command }
-{
-    match command {
-        Command::Error => "::error",
-        Command::Warning => "::warning",
-        Command::Notice => "::notice",
+    push_number(alloc, out, ",col=", start.column as u64)?;
+    match end {
+        Some(end) => push_number(alloc, out, ",endColumn=", end.column as u64),
+        None => Ok(()),
     }
 }
 

@@ -1,58 +1,46 @@
 //! JSON objects.
 
-ghost use Rattle.std.specs.Prelude.{◌≡◌, ◌≢◌, [], ◌<◌, ◌++◌, decimal, flat_map, option_map, IfOk, OnOk};
+ghost use Rattle.std.specs.Prelude.{◌≡◌, ◌<◌, ◌++◌, decimal, flat_map, option_map, IfOk, OnOk};
 ghost use Rattle.std.specs.List.{list_all};
+ghost use Rattle.timefd_lint_drawing.specs.Findings.{located_of, said_of};
+ghost use Rattle.timefd_lint_drawing.specs.Findings as findings;
 ghost use Rattle.timefd_lint_drawing.specs.Json as spec;
 
+use crate::finding::{FindingLocation, FindingWords, is_further};
+use crate::severity::word;
 use crate::shown::is_hidden;
 use std::alloc::{AllocError, Global};
+use timefd_lint_diagnosis::Span;
 
 // Room for most objects.
 const ROOM: usize = 256;
 
-/// What an object, or an annotation, holds of a diagnostic.
-#[derive(Clone, Copy)]
-pub struct Entry<'a> {
-    /// The stable name of the fault.
-    pub code: &'a str,
-    /// Where it is: the file, the line and the column, both counted from 1.
-    pub file: &'a str,
-    pub line: u64,
-    pub column: u64,
-    /// The sentence of the diagnostic.
-    pub message: &'a str,
-}
-
-/// What an object also holds if a text is at fault.
-#[derive(Clone, Copy)]
-pub struct Detail<'a> {
-    /// The byte range of the part at fault, from `start` to before `end`.
-    pub start: u64,
-    pub end: u64,
-    /// The help in words.
-    pub help: &'a str,
-    /// The word to write instead of that part, if one is near.
-    pub replacement: Option<&'a str>,
-    /// Whether it was found with the errors before it left out.
-    pub is_further: bool,
-}
-
-/// An object on a line, for a fault of a text. An `Err` says that memory ran out.
-pub fn object(alloc: Global, entry: Entry<'_>, detail: Detail<'_>) -> Result<Vec<u8>, AllocError>
-    ensures { IfOk result (λ line. line.items ≡ spec.object_of entry.entry detail.entry) }
+/// A finding as an object on a line. An `Err` says that memory ran out.
+pub fn object(
+    alloc: Global,
+    location: FindingLocation<'_, '_>,
+    finding: FindingWords<'_, '_>,
+) -> Result<Vec<u8>, AllocError>
+    ensures { IfOk result (λ line. line.items
+        ≡ findings.json (located_of location.entry) (said_of finding.entry)) }
 {
     let mut out = Vec::with_capacity(alloc, ROOM)?;
-    push_text(&mut out, "{\"code\":", entry.code)?;
-    push_number(alloc, &mut out, ",\"column\":", entry.column)?;
-    push_number(alloc, &mut out, ",\"end\":", detail.end)?;
-    push_text(&mut out, ",\"file\":", entry.file)?;
-    push_further(&mut out, detail.is_further)?;
-    push_text(&mut out, ",\"help\":", detail.help)?;
-    push_number(alloc, &mut out, ",\"line\":", entry.line)?;
-    push_text(&mut out, ",\"message\":", entry.message)?;
-    push_replacement(&mut out, detail.replacement)?;
-    push_text(&mut out, ",\"severity\":", "error")?;
-    push_number(alloc, &mut out, ",\"start\":", detail.start)?;
+    push_text(&mut out, "{\"code\":", finding.code)?;
+    push_number(
+        alloc,
+        &mut out,
+        ",\"column\":",
+        location.start.column as u64,
+    )?;
+    push_end(alloc, &mut out, location.bytes)?;
+    push_text(&mut out, ",\"file\":", location.file)?;
+    push_further(&mut out, is_further(finding.kind))?;
+    push_if_any(&mut out, ",\"help\":", finding.help)?;
+    push_number(alloc, &mut out, ",\"line\":", location.start.line)?;
+    push_text(&mut out, ",\"message\":", finding.message)?;
+    push_if_any(&mut out, ",\"replacement\":", finding.replacement)?;
+    push_text(&mut out, ",\"severity\":", word(finding.severity))?;
+    push_start(alloc, &mut out, location.bytes)?;
     out.extend_from_slice(b"}\n")?;
     Ok(out)
 }
@@ -67,32 +55,32 @@ fn push_further(out: &mut Vec<u8>, is_further: bool) -> Result<(), AllocError>
     }
 }
 
-fn push_replacement(out: &mut Vec<u8>, replacement: Option<&str>) -> Result<(), AllocError>
+fn push_if_any(out: &mut Vec<u8>, front: &str, text: Option<&str>) -> Result<(), AllocError>
     ensures { OnOk result (out.new.items
-        ≡ out.old.items ++ spec.replacement_field (option_map (λ word. word.now) replacement.entry)) }
+        ≡ out.old.items ++ spec.field_if_any front.now (option_map (λ text. text.now) text.entry)) }
 {
-    match replacement {
-        Some(word) => push_text(out, ",\"replacement\":", word),
+    match text {
+        Some(text) => push_text(out, front, text),
         None => Ok(()),
     }
 }
 
-/// An object on a line, if no text was looked at. The severity is `error` or `warning`. An `Err` says that
-/// memory ran out.
-pub fn note_object(alloc: Global, entry: Entry<'_>, severity: &str) -> Result<Vec<u8>, AllocError>
-    ensures exact { IfOk result (λ line. line.items
-        ≡ spec.note_object_of entry.entry severity.now) }
-    ensures some { IfOk result (λ line. line.items ≢ []) }
+fn push_end(alloc: Global, out: &mut Vec<u8>, bytes: Option<Span>) -> Result<(), AllocError>
+    ensures { OnOk result (out.new.items ≡ out.old.items ++ spec.end_field bytes) }
 {
-    let mut out = Vec::new(alloc);
-    push_text(&mut out, "{\"code\":", entry.code)?;
-    push_number(alloc, &mut out, ",\"column\":", entry.column)?;
-    push_text(&mut out, ",\"file\":", entry.file)?;
-    push_number(alloc, &mut out, ",\"line\":", entry.line)?;
-    push_text(&mut out, ",\"message\":", entry.message)?;
-    push_text(&mut out, ",\"severity\":", severity)?;
-    out.extend_from_slice(b"}\n")?;
-    Ok(out)
+    match bytes {
+        Some(bytes) => push_number(alloc, out, ",\"end\":", bytes.end as u64),
+        None => Ok(()),
+    }
+}
+
+fn push_start(alloc: Global, out: &mut Vec<u8>, bytes: Option<Span>) -> Result<(), AllocError>
+    ensures { OnOk result (out.new.items ≡ out.old.items ++ spec.start_field bytes) }
+{
+    match bytes {
+        Some(bytes) => push_number(alloc, out, ",\"start\":", bytes.start as u64),
+        None => Ok(()),
+    }
 }
 
 /// Appends a text in JSON quotes. An `Err` says that memory ran out.

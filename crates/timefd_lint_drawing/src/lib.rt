@@ -1,27 +1,33 @@
-//! Writes diagnostics: as a drawing, on one line, as a JSON object, as a GitHub annotation, or as a SARIF
+//! Writes findings: as a drawing, on one line, as a JSON object, as a GitHub annotation, or as a SARIF
 //! result.
 #![tactic(auto)]
 
-mod as_sarif;
 mod counter;
 mod draw;
-pub mod github;
+mod finding;
+mod github;
 pub mod help_text;
 mod human;
 pub mod json;
 pub mod laws;
-pub mod lines;
+mod lines;
 pub mod people;
 mod position;
 mod rows;
 pub mod sarif;
 mod sentence;
+mod severity;
+mod short;
 pub mod shown;
-pub mod source_line;
+mod source_line;
 
 pub use counter::{Counter, counted, none_counted};
-pub use draw::{Format, Style, drawn, drawn_all, drawn_all_from, note};
+pub use draw::{Format, Style, drawn, drawn_all, drawn_all_from, note, note_as, part_at, part_end};
+pub use finding::{FindingKind, FindingLocation, FindingWords, drawn_at};
+pub use github::annotation;
 pub use position::{
     Line, Origin, Position, char_position_from, line_of, position_from, position_of,
+    reported_position_from,
 };
 pub use sentence::reported_sentence;
+pub use severity::FindingSeverity;

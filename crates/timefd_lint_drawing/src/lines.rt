@@ -1,14 +1,12 @@
-//! The lines of a drawing, and the line that editors read.
+//! The lines of a drawing.
 
-ghost use Rattle.std.specs.Prelude.{◌≡◌, ◌++◌, flat_map, IfOk, OnOk, string_bytes};
+ghost use Rattle.std.specs.Prelude.{◌≡◌, ◌++◌, flat_map, OnOk, string_bytes};
 ghost use Rattle.timefd_lint_drawing.specs.Lines as spec;
 
 use crate::position::Position;
-use crate::shown::{push_safe, safe};
+use crate::severity::{FindingSeverity, paint, word};
+use crate::shown::push_safe;
 use std::alloc::{AllocError, Global};
-
-// Room for the numbers of a line, and for what is between its parts.
-const ROOM: usize = 32;
 
 /// The colour of a part of a drawing.
 #[derive(Clone, Copy)]
@@ -21,8 +19,8 @@ pub enum Paint {
     Cyan,
 }
 
-/// The bytes that begin a colour: none if nothing is coloured.
-pub fn begin(is_colored: bool, paint: Paint) -> &'static str
+// The bytes that begin a colour: none if nothing is coloured.
+fn begin(is_colored: bool, paint: Paint) -> &'static str
     ensures { result.now ≡ spec.begin is_colored paint }
 {
     if !is_colored {
@@ -35,8 +33,8 @@ pub fn begin(is_colored: bool, paint: Paint) -> &'static str
     }
 }
 
-/// The bytes that end a colour: none if nothing is coloured.
-pub fn plain(is_colored: bool) -> &'static str
+// The bytes that end a colour: none if nothing is coloured.
+fn plain(is_colored: bool) -> &'static str
     ensures { result.now ≡ spec.plain is_colored }
 {
     if is_colored { "\u{1B}[0m" } else { "" }
@@ -53,21 +51,24 @@ fn push_all(out: &mut String, parts: &[&str]) -> Result<(), AllocError>
     Ok(())
 }
 
-/// The first line: the fault's name, and the sentence.
-pub fn push_error_line(
+/// The first line: the severity, the code, and the sentence.
+pub fn push_head(
     out: &mut String,
     is_colored: bool,
+    severity: FindingSeverity,
     code: &str,
     sentence: &str,
 ) -> Result<(), AllocError>
     ensures { OnOk result (string_bytes out.new ≡ string_bytes out.old
-        ++ spec.error_line is_colored code.now sentence.now) }
+        ++ spec.head is_colored severity code.now sentence.now) }
 {
     if !is_colored {
-        return push_all(out, &["error[", code, "]: ", sentence, "\n"]);
+        out.push_str(word(severity))?;
+        return push_all(out, &["[", code, "]: ", sentence, "\n"]);
     }
-    let (red, plain) = (begin(is_colored, Paint::Red), plain(is_colored));
-    write!(out, "{red}error[{code}]{plain}: {sentence}\n")
+    let (paint, plain) = (begin(is_colored, paint(severity)), plain(is_colored));
+    let word = word(severity);
+    write!(out, "{paint}{word}[{code}]{plain}: {sentence}\n")
 }
 
 /// The line with the position.
@@ -163,8 +164,8 @@ pub fn push_caret_line(
     )
 }
 
-/// The line with the help.
-pub fn push_help_line(
+// The line with the help.
+fn push_help_line(
     out: &mut String,
     is_colored: bool,
     margin: &str,
@@ -207,25 +208,4 @@ fn push_note_line(out: &mut String, is_colored: bool, margin: &str) -> Result<()
         out,
         "{margin} {cyan}={plain} note: found with the errors before it left out\n"
     )
-}
-
-/// `FILE:LINE:COLUMN: SENTENCE`, as editors read it.
-pub fn short_line(
-    alloc: Global,
-    file: &str,
-    position: Position,
-    sentence: &str,
-) -> Result<String, AllocError>
-    ensures { IfOk result (λ line. string_bytes line
-        ≡ spec.short_line file.now position.line position.column sentence.now) }
-{
-    let name = safe(alloc, file)?;
-    let Position { line, column } = position;
-    let room = sentence
-        .len()
-        .saturating_add(name.len())
-        .saturating_add(ROOM);
-    let mut out = String::with_capacity(alloc, room)?;
-    write!(out, "{name}:{line}:{column}: {sentence}\n")?;
-    Ok(out)
 }

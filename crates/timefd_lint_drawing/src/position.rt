@@ -5,6 +5,7 @@ ghost use Rattle.timefd_lint_drawing.specs.Counted.{IsCounted};
 ghost use Rattle.timefd_lint_drawing.specs.Positions as spec;
 
 use crate::counter::{Counter, line_at, none_counted};
+use crate::draw::Format;
 use crate::shown::{char_count, columns};
 use std::alloc::{AllocError, Global};
 use timefd_lint_diagnosis::Span;
@@ -80,6 +81,32 @@ pub fn char_position_from(first: u64, text: &str, from: Counter, index: usize) -
     Position {
         line: line_at(first, text, from, front.len()),
         column: char_count(last_line(front)).saturating_add(1),
+    }
+}
+
+/// The position of the byte at an index, where the column is as the output format counts it: SARIF counts characters, and the
+/// others what a terminal shows. An `Err` says that memory ran out.
+#[tactic(auto, using(crate::proofs::PositionLemmas::position_of_both))]
+pub fn reported_position_from(
+    alloc: Global,
+    format: Format,
+    first: u64,
+    text: &str,
+    from: Counter,
+    index: usize,
+) -> Result<Position, AllocError>
+    requires { IsCounted first text.now from }
+    ensures { IfOk result (λ position. position ≡ spec.reported_position format first text.now index) }
+{
+    match format {
+        Format::Human | Format::Json | Format::Short | Format::Github => {
+            let Position { line, column } = position_from(alloc, first, text, from, index)?;
+            Ok(Position { line, column })
+        }
+        Format::Sarif => {
+            let Position { line, column } = char_position_from(first, text, from, index);
+            Ok(Position { line, column })
+        }
     }
 }
 

@@ -1,24 +1,16 @@
 //! SARIF 2.1.0 results, as code scanning and editors read them.
 
-ghost use Rattle.std.specs.Prelude.{◌≡◌, ◌≢◌, ◌<◌, ◌++◌, [], option_map, IfOk, OnOk, string_bytes};
+ghost use Rattle.std.specs.Prelude.{◌≡◌, ◌<◌, ◌++◌, IfOk, OnOk, string_bytes};
+ghost use Rattle.timefd_lint_drawing.specs.Findings.{located_of, said_of};
+ghost use Rattle.timefd_lint_drawing.specs.Findings as findings;
 ghost use Rattle.timefd_lint_drawing.specs.Sarif as spec;
+ghost use Rattle.timefd_lint_drawing.specs.Severities as severities;
 
-use crate::json::{Entry, push_number, push_text};
+use crate::finding::{FindingLocation, FindingWords, described, is_further};
+use crate::json::{push_number, push_text};
+use crate::position::Position;
+use crate::severity::word;
 use std::alloc::{AllocError, Global};
-
-/// What a result also holds if a text is at fault.
-#[derive(Clone, Copy)]
-pub struct FaultResult<'a> {
-    /// The line and the column of what follows the part at fault.
-    pub end_line: u64,
-    pub end_column: u64,
-    /// The help in words.
-    pub help: &'a str,
-    /// The word to write instead of that part, if one is near.
-    pub replacement: Option<&'a str>,
-    /// Whether it was found with the errors before it left out.
-    pub is_further: bool,
-}
 
 /// A sentence, and the help in a line after it. An `Err` says that memory ran out.
 pub fn with_help(alloc: Global, sentence: &str, help: &str) -> Result<String, AllocError>
@@ -27,97 +19,162 @@ pub fn with_help(alloc: Global, sentence: &str, help: &str) -> Result<String, Al
     format!(in alloc; "{sentence}\n{help}")
 }
 
-// The start of a result, up to the column in which the part at fault begins.
-fn begun(alloc: Global, entry: Entry<'_>, level: &str) -> Result<Vec<u8>, AllocError>
-    ensures { IfOk result (λ reported. reported.items ≡ spec.begun_of entry.entry level.now) }
+/// A finding as a result after a comma. It has a fix if the part's end is known, and a word is near. An `Err` says that memory
+/// ran out.
+pub fn result(
+    alloc: Global,
+    location: FindingLocation<'_, '_>,
+    finding: FindingWords<'_, '_>,
+) -> Result<Vec<u8>, AllocError>
+    ensures { IfOk result (λ reported. reported.items
+        ≡ findings.sarif (located_of location.entry) (said_of finding.entry)) }
+{
+    let message = described(alloc, finding)?;
+    described_result(alloc, location, finding, &message)
+}
+
+// A result with this sentence and help.
+fn described_result(
+    alloc: Global,
+    location: FindingLocation<'_, '_>,
+    finding: FindingWords<'_, '_>,
+    message: &str,
+) -> Result<Vec<u8>, AllocError>
+    ensures { IfOk result (λ reported. reported.items ≡ findings.described_result (located_of location.entry)
+        (said_of finding.entry) message.now) }
+{
+    match location.end {
+        Some(end) => part_result(alloc, location, end, finding, message),
+        None => whole_result(alloc, location, finding, message),
+    }
+}
+
+// The start of a result, up to the column in which the part begins.
+fn begun(
+    alloc: Global,
+    location: FindingLocation<'_, '_>,
+    finding: FindingWords<'_, '_>,
+    message: &str,
+) -> Result<Vec<u8>, AllocError>
+    ensures { IfOk result (λ reported. reported.items ≡ spec.begun finding.entry.code.now location.entry.file.now
+        location.entry.start.line location.entry.start.column message.now (severities.word finding.entry.severity)) }
 {
     let mut out = Vec::new(alloc);
-    push_text(&mut out, ",{\"ruleId\":", entry.code)?;
-    push_text(&mut out, ",\"level\":", level)?;
-    push_text(&mut out, ",\"message\":{\"text\":", entry.message)?;
+    push_text(&mut out, ",{\"ruleId\":", finding.code)?;
+    push_text(&mut out, ",\"level\":", word(finding.severity))?;
+    push_text(&mut out, ",\"message\":{\"text\":", message)?;
     out.extend_from_slice(b"},\"locations\":[{\"physicalLocation\":")?;
-    push_uri(&mut out, "{\"artifactLocation\":{\"uri\":\"", entry.file)?;
+    push_uri(&mut out, "{\"artifactLocation\":{\"uri\":\"", location.file)?;
     push_number(
         alloc,
         &mut out,
         "\"},\"region\":{\"startLine\":",
-        entry.line,
+        location.start.line,
     )?;
-    push_number(alloc, &mut out, ",\"startColumn\":", entry.column)?;
+    push_number(
+        alloc,
+        &mut out,
+        ",\"startColumn\":",
+        location.start.column as u64,
+    )?;
     Ok(out)
 }
 
-/// A result after a comma, for a fault of a text. Columns count characters. An `Err` says that memory ran
-/// out.
-pub fn result(
+// A result with the end of the part. Columns count characters.
+fn part_result(
     alloc: Global,
-    entry: Entry<'_>,
-    fault: FaultResult<'_>,
+    location: FindingLocation<'_, '_>,
+    end: Position,
+    finding: FindingWords<'_, '_>,
+    message: &str,
 ) -> Result<Vec<u8>, AllocError>
-    ensures exact { IfOk result (λ reported. reported.items ≡ spec.result_of entry.entry fault.entry) }
-    ensures some { IfOk result (λ reported. reported.items ≢ []) }
+    ensures { IfOk result (λ reported. reported.items ≡ findings.part_result (located_of location.entry) end
+        (said_of finding.entry) message.now) }
 {
-    let fixes = fixes(alloc, entry, fault)?;
-    let mut out = begun(alloc, entry, "error")?;
-    push_number(alloc, &mut out, ",\"endLine\":", fault.end_line)?;
-    push_number(alloc, &mut out, ",\"endColumn\":", fault.end_column)?;
+    let fixes = fixes(alloc, location, end, finding)?;
+    let mut out = begun(alloc, location, finding, message)?;
+    push_number(alloc, &mut out, ",\"endLine\":", end.line)?;
+    push_number(alloc, &mut out, ",\"endColumn\":", end.column as u64)?;
     out.extend_from_slice(b"}}}]")?;
     out.extend_from_slice(&fixes)?;
-    push_further(&mut out, fault.is_further)?;
+    push_further(&mut out, is_further(finding.kind))?;
     out.extend_from_slice(b"}\n")?;
     Ok(out)
 }
 
-/// A result after a comma, for a whole text or a file. The level is `error`, `warning` or `note`. An `Err`
-/// says that memory ran out.
-pub fn note_result(alloc: Global, entry: Entry<'_>, level: &str) -> Result<Vec<u8>, AllocError>
-    ensures exact { IfOk result (λ reported. reported.items ≡ spec.note_result_of entry.entry level.now) }
-    ensures some { IfOk result (λ reported. reported.items ≢ []) }
+// A result without the end of a part.
+fn whole_result(
+    alloc: Global,
+    location: FindingLocation<'_, '_>,
+    finding: FindingWords<'_, '_>,
+    message: &str,
+) -> Result<Vec<u8>, AllocError>
+    ensures { IfOk result (λ reported. reported.items ≡ findings.whole_result (located_of location.entry)
+        (said_of finding.entry) message.now) }
 {
-    let mut out = begun(alloc, entry, level)?;
+    let mut out = begun(alloc, location, finding, message)?;
     out.extend_from_slice(b"}}}]}\n")?;
     Ok(out)
 }
 
 // The field with the fix, if a word is near.
-fn fixes(alloc: Global, entry: Entry<'_>, fault: FaultResult<'_>) -> Result<Vec<u8>, AllocError>
-    ensures { IfOk result (λ field. field.items ≡ spec.fixes_of entry.entry fault.entry) }
+fn fixes(
+    alloc: Global,
+    location: FindingLocation<'_, '_>,
+    end: Position,
+    finding: FindingWords<'_, '_>,
+) -> Result<Vec<u8>, AllocError>
+    ensures { IfOk result (λ field. field.items
+        ≡ findings.fixes (located_of location.entry) end (said_of finding.entry)) }
 {
-    match fault.replacement {
-        Some(word) => fix(alloc, entry, fault, word),
+    match finding.replacement {
+        Some(word) => fix(alloc, location, end, help_of(finding), word),
         None => Ok(Vec::new(alloc)),
+    }
+}
+
+// The help, or nothing.
+fn help_of<'m>(finding: FindingWords<'_, 'm>) -> &'m str
+    ensures { result.now ≡ findings.help_text (said_of finding.entry) }
+{
+    match finding.help {
+        Some(help) => help,
+        None => "",
     }
 }
 
 fn fix(
     alloc: Global,
-    entry: Entry<'_>,
-    fault: FaultResult<'_>,
+    location: FindingLocation<'_, '_>,
+    end: Position,
+    help: &str,
     word: &str,
 ) -> Result<Vec<u8>, AllocError>
-    ensures { IfOk result (λ field. field.items ≡ spec.fix_of entry.entry fault.entry word.now) }
+    ensures { IfOk result (λ field. field.items ≡ spec.fix location.entry.file.now location.entry.start.line
+        location.entry.start.column end.line end.column help.now word.now) }
 {
     let mut out = Vec::new(alloc);
-    push_text(
-        &mut out,
-        ",\"fixes\":[{\"description\":{\"text\":",
-        fault.help,
-    )?;
+    push_text(&mut out, ",\"fixes\":[{\"description\":{\"text\":", help)?;
     push_uri(
         &mut out,
         "},\"artifactChanges\":[{\"artifactLocation\":{\"uri\":\"",
-        entry.file,
+        location.file,
     )?;
     out.extend_from_slice(b"\"},\"replacements\":[")?;
     push_number(
         alloc,
         &mut out,
         "{\"deletedRegion\":{\"startLine\":",
-        entry.line,
+        location.start.line,
     )?;
-    push_number(alloc, &mut out, ",\"startColumn\":", entry.column)?;
-    push_number(alloc, &mut out, ",\"endLine\":", fault.end_line)?;
-    push_number(alloc, &mut out, ",\"endColumn\":", fault.end_column)?;
+    push_number(
+        alloc,
+        &mut out,
+        ",\"startColumn\":",
+        location.start.column as u64,
+    )?;
+    push_number(alloc, &mut out, ",\"endLine\":", end.line)?;
+    push_number(alloc, &mut out, ",\"endColumn\":", end.column as u64)?;
     push_text(&mut out, "},\"insertedContent\":{\"text\":", word)?;
     out.extend_from_slice(b"}}]}]}]")?;
     Ok(out)

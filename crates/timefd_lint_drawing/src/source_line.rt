@@ -1,7 +1,7 @@
 //! The line of a text with a span, and carets under it.
 
 ghost use Rattle.std.specs.Prelude.{◌≡◌, ◌++◌, IfOk, OnOk, string_bytes};
-ghost use Rattle.timefd_lint_drawing.specs.Drawing as spec;
+ghost use Rattle.timefd_lint_drawing.specs.Sources as spec;
 ghost use Rattle.timefd_lint_drawing.specs.Lines as lines;
 
 use crate::lines::{Paint, push_bar_line, push_caret_line, push_text_line};

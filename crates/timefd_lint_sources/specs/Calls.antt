@@ -4,7 +4,8 @@ use Rattle.timefd_lang_component.specs.Tree.{Text}
 use Rattle.timefd_lint_drawing.specs.declared.draw.Format.{Format}
 use Rattle.timefd_lint_drawing.specs.declared.draw.Format.TheVariants.{Human, Json, Short, Github, Sarif}
 use Rattle.timefd_lint_drawing.specs.declared.draw.Style.{Style}
-use Rattle.timefd_lint_drawing.specs.declared.github.Command.TheVariants.{Notice}
+use Rattle.timefd_lint_drawing.specs.declared.position.Position.{Position}
+use Rattle.timefd_lint_drawing.specs.declared.severity.FindingSeverity.TheVariants.{Note}
 use Rattle.timefd_lint_drawing.specs.Github.{annotation}
 use Rattle.timefd_lint_drawing.specs.Positions.{column, line_number}
 use Rattle.timefd_lint_drawing.specs.Shown.{safe}
@@ -29,16 +30,19 @@ human file line column =
 abbrev pub short : Text → ℕ → ℕ → Text
 short file line column = position_text file line column ++ (codes ": note: " ++ (message ++ codes "\n"))
 
-abbrev pub note_in : Format → Text → ℕ → ℕ → Text
-note_in Human file line column = human file line column
-note_in Json file line column = []
-note_in Short file line column = short file line column
-note_in Github file line column = annotation Notice code file line column message
-note_in Sarif file line column = []
+abbrev pub annotated : Text → Position → Text
+annotated file position = annotation Note code file position None message
+
+abbrev pub note_in : Format → Text → Position → Text
+note_in Human file position = human file position.line position.column
+note_in Json file position = []
+note_in Short file position = short file position.line position.column
+note_in Github file position = annotated file position
+note_in Sarif file position = []
 
 abbrev pub note_at : Style → SourceText → ℕ → Text
 note_at style s at =
-    note_in style.format s.file.now (line_number 1 s.text.now at) (column s.text.now at)
+    note_in style.format s.file.now (record { line = line_number 1 s.text.now at; column = column s.text.now at })
 
 abbrev pub note_for : Style → SourceText → Option ℕ → Text
 note_for style s None = []

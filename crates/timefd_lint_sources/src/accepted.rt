@@ -11,12 +11,11 @@ ghost use Rattle.timefd_lint_explain.specs.Lines.{IsExplainedIf};
 ghost use Rattle.timefd_lint_sources.specs.Judged.{language_in, text_of};
 ghost use Rattle.timefd_lint_sources.specs.Whole.{IsMessageOn, IsTreeAndWarnings};
 
-use crate::position::reported_position_of;
-use crate::reported::{ItemEnd, Reported, Reporting, SourceText};
+use crate::reported::{FIRST_LINE, ItemEnd, Reported, Reporting, SourceText};
 use std::alloc::{AllocError, Global};
 use timefd_lang_warnings::{Level, Levels};
 use timefd_lint_diagnosis::Span;
-use timefd_lint_drawing::{Counter, Origin};
+use timefd_lint_drawing::{Counter, Origin, reported_position_from};
 use timefd_lint_explain::explained;
 use timefd_lint_scan::SourceDescription;
 use timefd_lint_warnings::{found_by, messages_at};
@@ -105,7 +104,14 @@ pub fn tree_and_warnings(
         found message.items) }
 {
     let format = reporting.style.format;
-    let position = reported_position_of(alloc, format, source.text, from, description.piece.start)?;
+    let position = reported_position_from(
+        alloc,
+        format,
+        FIRST_LINE,
+        source.text,
+        from,
+        description.piece.start,
+    )?;
     let origin = Origin {
         file: source.file,
         line: position.line,

@@ -4,13 +4,13 @@ ghost use Rattle.std.specs.Prelude.{◌≡◌, IfOk, string_bytes};
 ghost use Rattle.timefd_lint_drawing.specs.Counted.{IsCounted};
 ghost use Rattle.timefd_lint_sources.specs.Calls as spec;
 
-use crate::position::FIRST_LINE;
-use crate::reported::SourceText;
+use crate::reported::{FIRST_LINE, SourceText};
 use std::alloc::{AllocError, Global};
-use timefd_lint_drawing::github::{Command, annotation};
-use timefd_lint_drawing::json::Entry;
 use timefd_lint_drawing::shown::safe;
-use timefd_lint_drawing::{Counter, Format, Position, Style, position_from};
+use timefd_lint_drawing::{
+    Counter, FindingKind, FindingLocation, FindingSeverity, FindingWords, Format, Position, Style,
+    annotation, position_from,
+};
 use timefd_lint_scan::SourceDescription;
 
 /// The code of such a note.
@@ -57,15 +57,8 @@ fn note_in(
     file: &str,
     position: Position,
 ) -> Result<Vec<u8>, AllocError>
-    ensures { IfOk result (λ note. note.items ≡ spec.note_in format file.now position.line position.column) }
+    ensures { IfOk result (λ note. note.items ≡ spec.note_in format file.now position) }
 {
-    let entry = Entry {
-        code: CODE,
-        file,
-        line: position.line,
-        column: position.column as u64,
-        message: MESSAGE,
-    };
     match format {
         Format::Human => {
             let drawing = human(alloc, file, position)?;
@@ -75,9 +68,30 @@ fn note_in(
             let line = short(alloc, file, position)?;
             Ok(line.into_bytes())
         }
-        Format::Github => annotation(alloc, Command::Notice, entry),
+        Format::Github => annotated(alloc, file, position),
         Format::Json | Format::Sarif => Ok(Vec::new(alloc)),
     }
+}
+
+fn annotated(alloc: Global, file: &str, position: Position) -> Result<Vec<u8>, AllocError>
+    ensures { IfOk result (λ note. note.items ≡ spec.annotated file.now position) }
+{
+    let location = FindingLocation {
+        file,
+        start: position,
+        end: None,
+        bytes: None,
+        line: None,
+    };
+    let finding = FindingWords {
+        severity: FindingSeverity::Note,
+        kind: FindingKind::Fault,
+        code: CODE,
+        message: MESSAGE,
+        help: None,
+        replacement: None,
+    };
+    annotation(alloc, location, finding)
 }
 
 // `FILE:LINE:COLUMN`

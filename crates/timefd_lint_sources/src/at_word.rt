@@ -1,19 +1,17 @@
 //! A message on a word in a comment.
 
-ghost use Rattle.std.specs.Prelude.{◌≡◌, IfOk, string_bytes};
+ghost use Rattle.std.specs.Prelude.{◌≡◌, IfOk};
 ghost use Rattle.timefd_lint_drawing.specs.Counted.{IsCounted};
+ghost use Rattle.timefd_lint_drawing.specs.Findings.{located_of};
 ghost use Rattle.timefd_lint_sources.specs.AtWord as spec;
 
-use crate::position::reported_position_of;
-use crate::reported::SourceText;
+use crate::reported::{FIRST_LINE, SourceText};
 use std::alloc::{AllocError, Global};
 use timefd_lint_diagnosis::Span;
-use timefd_lint_drawing::github::{Command, annotation};
-use timefd_lint_drawing::json::{Entry, note_object};
-use timefd_lint_drawing::lines::{Paint, push_error_line, push_position_line, short_line};
-use timefd_lint_drawing::sarif::note_result;
-use timefd_lint_drawing::source_line::{margin, push_source};
-use timefd_lint_drawing::{Counter, Format, Position, Style, line_of};
+use timefd_lint_drawing::{
+    Counter, FindingKind, FindingLocation, FindingSeverity, FindingWords, Format, Style, drawn_at,
+    line_of, reported_position_from,
+};
 
 /// The message on these bytes of a source, at the position of the first one. `from` says how far lines are counted. An
 /// `Err` says that memory ran out.
@@ -30,79 +28,35 @@ pub fn message_at(
     ensures { IfOk result (λ message. message.items
         ≡ spec.message style source.entry span code.now sentence.now) }
 {
-    let position = reported_position_of(alloc, style.format, source.text, from, span.start)?;
-    message_in(alloc, style, source, position, span, code, sentence)
-}
-
-fn message_in(
-    alloc: Global,
-    style: Style,
-    source: SourceText<'_>,
-    position: Position,
-    span: Span,
-    code: &str,
-    sentence: &str,
-) -> Result<Vec<u8>, AllocError>
-    ensures { IfOk result (λ message. message.items ≡ spec.message_in style.format style.is_colored source.entry
-        position.line position.column span code.now sentence.now) }
-{
-    let entry = Entry {
+    let location = located(alloc, style.format, source, from, span)?;
+    let finding = FindingWords {
+        severity: FindingSeverity::Error,
+        kind: FindingKind::Fault,
         code,
-        file: source.file,
-        line: position.line,
-        column: position.column as u64,
         message: sentence,
+        help: None,
+        replacement: None,
     };
-    match style.format {
-        Format::Human => {
-            let drawing = human(
-                alloc,
-                style.is_colored,
-                source,
-                position,
-                span,
-                code,
-                sentence,
-            )?;
-            Ok(drawing.into_bytes())
-        }
-        Format::Short => {
-            let line = short_line(alloc, source.file, position, sentence)?;
-            Ok(line.into_bytes())
-        }
-        Format::Json => note_object(alloc, entry, "error"),
-        Format::Github => annotation(alloc, Command::Error, entry),
-        Format::Sarif => note_result(alloc, entry, "error"),
-    }
+    drawn_at(alloc, style, location, finding)
 }
 
-// The sentence, the position, and the line with carets under the word.
-fn human(
+// Where the word is.
+fn located<'a>(
     alloc: Global,
-    is_colored: bool,
-    source: SourceText<'_>,
-    position: Position,
+    format: Format,
+    source: SourceText<'a>,
+    from: Counter,
     span: Span,
-    code: &str,
-    sentence: &str,
-) -> Result<String, AllocError>
-    ensures { IfOk result (λ drawing. string_bytes drawing
-        ≡ spec.human is_colored source.entry position.line position.column span code.now sentence.now) }
+) -> Result<FindingLocation<'a, 'a>, AllocError>
+    requires { IsCounted 1 source.text.now from }
+    ensures { IfOk result (λ location. located_of location ≡ spec.located format source.entry span) }
 {
-    let line = line_of(source.text, span);
-    let margin = margin(alloc, position.line)?;
-    let mut out = String::new(alloc);
-    push_error_line(&mut out, is_colored, code, sentence)?;
-    push_position_line(alloc, &mut out, is_colored, &margin, source.file, position)?;
-    push_source(
-        alloc,
-        &mut out,
-        is_colored,
-        Paint::Red,
-        position.line,
-        &margin,
-        line,
-    )?;
-    out.push_str("\n")?;
-    Ok(out)
+    let start = reported_position_from(alloc, format, FIRST_LINE, source.text, from, span.start)?;
+    Ok(FindingLocation {
+        file: source.file,
+        start,
+        end: None,
+        bytes: None,
+        line: Some(line_of(source.text, span)),
+    })
 }

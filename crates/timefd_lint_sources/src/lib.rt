@@ -17,7 +17,6 @@ mod no_code;
 mod opening;
 mod other;
 mod placed;
-mod position;
 mod refusing;
 mod remainder;
 mod remark;
@@ -39,9 +38,8 @@ pub use language::{is_passed_over, language_of, other_of};
 pub use left::Left;
 pub use no_code::{NO_CODE, NoCode, sentence_on};
 pub use opening::is_of_item;
-pub use position::FIRST_LINE;
 pub use remark::{NO_LANGUAGE, NO_LANGUAGE_SENTENCE, Remark, index_of_remark, word_at};
-pub use reported::{Finder, ItemEnd, Reported, Reporting, SourceText};
+pub use reported::{FIRST_LINE, Finder, ItemEnd, Reported, Reporting, SourceText};
 pub use search::first_refusal;
 pub use source::{
     Judged, Report, descriptions_in, judged_in, judged_with_remarks, lint_source, report_all,

@@ -7,8 +7,7 @@ ghost use Rattle.timefd_lint_sources.specs.Judged.{text_of};
 ghost use Rattle.timefd_lint_sources.specs.Others as spec;
 
 use crate::at_call::call_note;
-use crate::position::FIRST_LINE;
-use crate::reported::{ItemEnd, Reported, Reporting, SourceText};
+use crate::reported::{FIRST_LINE, ItemEnd, Reported, Reporting, SourceText};
 use crate::search::first_refusal;
 use std::alloc::{AllocError, Global};
 use timefd_lang_dialect::{Dialect, Found, RefusedPart, traps};

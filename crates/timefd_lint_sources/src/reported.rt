@@ -17,7 +17,6 @@ use crate::language::{language_of, other_of};
 use crate::left::Left;
 use crate::other::report_other;
 use crate::placed::{all_placed_in, placed_in};
-use crate::position::FIRST_LINE;
 use crate::remainder::report_left;
 use std::alloc::{AllocError, Global};
 use std::str;
@@ -26,6 +25,9 @@ use timefd_lint_diagnosis::{Diagnostic, diagnose};
 use timefd_lint_drawing::{Counter, Origin, Style, counted, drawn_all_from, note};
 use timefd_lint_scan::SourceDescription;
 use timefd_lint_scan::keys::{DescriptionKey, FileFormat};
+
+/// The number of a source's first line.
+pub const FIRST_LINE: u64 = 1;
 
 /// How to report on descriptions.
 #[derive(Clone, Copy)]

@@ -9,9 +9,8 @@ ghost use Rattle.timefd_lint_scan.specs.Found.{AreInOrder};
 
 use crate::judged::{judged_all, judged_as};
 use crate::no_code::push_no_codes;
-use crate::position::FIRST_LINE;
 use crate::remark::{Remark, push_remarks, remarks_on, remarks_on_values};
-use crate::reported::{Finder, ItemEnd, Reported, Reporting, SourceText, report};
+use crate::reported::{FIRST_LINE, Finder, ItemEnd, Reported, Reporting, SourceText, report};
 use std::alloc::{AllocError, Global};
 use timefd_lint_drawing::{Counter, counted, none_counted};
 use timefd_lint_scan::keys::{DescriptionKey, FileFormat, Values, descriptions_by, values_by};

@@ -1,2 +1,1 @@
 pub mod JudgingLemmas
-pub mod DrawnLemmas

@@ -1,4 +1,4 @@
 pub mod FoundLemmas
 pub mod HintLemmas
-pub mod SarifLemmas
+pub mod MessageLemmas
 pub mod DialectLemmas

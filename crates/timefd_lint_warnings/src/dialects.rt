@@ -2,10 +2,7 @@
 //! each in every form.
 
 mod codes;
-mod finding;
-mod human;
 mod judging;
 
 pub use codes::{all_reasons, all_traps, names_are_read, reason_named, trap_named};
-pub use finding::{PartFinding, drawn};
 pub use judging::{JudgedFormat, Judgement, judge, refusal_drawn, trap_drawn};

@@ -11,5 +11,4 @@ mod reported;
 pub mod dialects;
 
 pub use found::{found_by, found_in};
-pub use message::{head, paint, position};
 pub use reported::{messages, messages_at};

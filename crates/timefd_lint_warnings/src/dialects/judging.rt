@@ -3,14 +3,16 @@
 ghost use Rattle.std.specs.Prelude.{◌≡◌, ◌++◌, IfOk, List, OnOk, flat_map};
 ghost use Rattle.timefd_lang_dialect.specs.Reading.{Means, Piece};
 ghost use Rattle.timefd_lint_drawing.specs.Counted.{IsCounted};
+ghost use Rattle.timefd_lint_drawing.specs.Findings.{said_of};
 ghost use Rattle.timefd_lint_warnings.specs.Dialects.Judging as spec;
 
-use crate::dialects::finding::{PartFinding, drawn};
 use std::alloc::{AllocError, Global};
 use timefd_lang_dialect::{Dialect, DialectError, Found, RefusedPart, to_version_three, traps};
-use timefd_lang_warnings::Level;
 use timefd_lint_diagnosis::Span;
-use timefd_lint_drawing::{Counter, Origin, Style, none_counted};
+use timefd_lint_drawing::{
+    Counter, FindingKind, FindingSeverity, FindingWords, Origin, Style, drawn_at, none_counted,
+    part_at, part_end,
+};
 
 /// What a format of another language is.
 #[derive(Clone, Copy)]
@@ -124,17 +126,19 @@ pub fn trap_drawn(
     ensures { IfOk result (λ message. message.items
         ≡ spec.trap_drawn style origin.entry text.now found) }
 {
-    let finding = PartFinding {
-        level: Level::Warned,
+    let finding = FindingWords {
+        severity: FindingSeverity::Warning,
+        kind: FindingKind::Labelled,
         code: found.trap.name(),
         message: found.trap.sentence(),
-        help: found.trap.cure(),
-        span: Span {
-            start: found.start,
-            end: found.end,
-        },
+        help: Some(found.trap.cure()),
+        replacement: None,
     };
-    drawn(alloc, style, origin, text, from, finding)
+    let span = Span {
+        start: found.start,
+        end: found.end,
+    };
+    drawn(alloc, style, origin, text, from, span, finding)
 }
 
 /// The message on a part that has no text of version 3, at this position of the text. Where the part ends isn't known, so
@@ -151,15 +155,36 @@ pub fn refusal_drawn(
     ensures { IfOk result (λ message. message.items
         ≡ spec.refusal_drawn style origin.entry text.now refusal.reason refusal.index) }
 {
-    let finding = PartFinding {
-        level: Level::Denied,
+    let finding = FindingWords {
+        severity: FindingSeverity::Error,
+        kind: FindingKind::Labelled,
         code: refusal.reason.name(),
         message: refusal.reason.sentence(),
-        help: refusal.reason.cure(),
-        span: Span {
-            start: refusal.index,
-            end: refusal.index,
-        },
+        help: Some(refusal.reason.cure()),
+        replacement: None,
     };
-    drawn(alloc, style, origin, text, from, finding)
+    let span = Span {
+        start: refusal.index,
+        end: refusal.index,
+    };
+    drawn(alloc, style, origin, text, from, span, finding)
+}
+
+// What is found in a part of a text, in the form that is asked for.
+fn drawn(
+    alloc: Global,
+    style: Style,
+    origin: Origin<'_>,
+    text: &str,
+    from: Counter,
+    span: Span,
+    finding: FindingWords<'_, '_>,
+) -> Result<Vec<u8>, AllocError>
+    requires { IsCounted origin.line text.now from }
+    ensures { IfOk result (λ message. message.items
+        ≡ spec.drawn style origin.entry text.now span (said_of finding.entry)) }
+{
+    let end = part_end(alloc, style.format, origin, text, from, span.end)?;
+    let location = part_at(alloc, end, style.format, origin, text, from, span)?;
+    drawn_at(alloc, style, location, finding)
 }

@@ -69,6 +69,3 @@ further_piece = record {
       ap₂ (λ b l. comma ∷ token (string (codes "further")) ∷ colon ∷ token (cond b (boolean true) bad) ∷ l) h
       (in_word-ended rest h);
 }
-
-pub error_utf8 : IsUtf8 (codes "error")
-error_utf8 = IsUtf8-are_ascii _ refl

@@ -100,7 +100,7 @@ rule_comma : (r : Rule) → 44 ∷ drop 1 (rule_text r) ≡ rule_text r
 rule_comma (rule name level summary explanation) = refl
 
 result_comma : (r : Result) → 44 ∷ drop 1 (result_text r) ≡ result_text r
-result_comma (fault further code file line column end_line end_column message help replacement) = refl
+result_comma (fault further code file line column end_line end_column message help replacement level) = refl
 result_comma (note code file line column message level) = refl
 
 rules_of : (rs : List Rule) → All IsProperRule rs → AreMembers (flat_map rule_text rs) (map rule_value rs)

@@ -16,7 +16,6 @@ use Rattle.timefd_web.specs.JsonLaws.Results.{Result, fault, note, result_text, 
 use Rattle.timefd_web.proofs.JsonLawLemmas.Distinct.{unique_keys}
 use Rattle.timefd_web.proofs.JsonLawLemmas.Fields.{text_lexed, number_lexed, strings, numbers, then}
 use Rattle.timefd_web.proofs.JsonLawLemmas.ResultFronts as front
-use Rattle.timefd_web.proofs.JsonLawLemmas.Fronts.{error_utf8}
 use Rattle.timefd_web.proofs.JsonLawLemmas.Means.{means_of, tokens_of}
 use Rattle.timefd_web.proofs.JsonLawLemmas.Pieces.{Lexes, Opens, closed, no_piece, string_after}
 use Rattle.timefd_web.proofs.JsonLawLemmas.Uris.{uri_stays}
@@ -127,62 +126,62 @@ further_lexed : (further : Bool) → Lexes (drawing.further_field further) (furt
 further_lexed true = front.further_piece
 further_lexed false = no_piece
 
-abbrev fault_lexemes : Bool → Text → Text → ℕ → ℕ → ℕ → ℕ → Text → Text → Option Text → List Lexeme
-fault_lexemes further code file line column end_line end_column message help o =
-    begun_lexemes code (codes "error") message file line column ++ (front.end_line_lexemes ++ numbers end_line)
+abbrev fault_lexemes : Bool → Text → Text → ℕ → ℕ → ℕ → ℕ → Text → Text → Option Text → Text → List Lexeme
+fault_lexemes further code file line column end_line end_column message help o level =
+    begun_lexemes code level message file line column ++ (front.end_line_lexemes ++ numbers end_line)
     ++ (front.end_column_lexemes ++ numbers end_column) ++ front.located_lexemes
     ++ fixes_lexemes file line column end_line end_column help o ++ further_lexemes further ++ front.closing_lexemes
 
-fault_lexed : (further : Bool) (code file : Text) (line column end_line end_column : ℕ) (message help : Text) (o : Option Text)
-    → IsProper (fault further code file line column end_line end_column message help o)
-    → Lexes (drawing.result further code file line column end_line end_column message help o)
-    (fault_lexemes further code file line column end_line end_column message help o)
-fault_lexed further code file line column end_line end_column message help o (c, f, l, k, n, e, m, h, w) =
+fault_lexed : (further : Bool) (code file : Text) (line column end_line end_column : ℕ) (message help : Text) (o : Option Text) (level : Text)
+    → IsProper (fault further code file line column end_line end_column message help o level)
+    → Lexes (drawing.result further code file line column end_line end_column message help o level)
+    (fault_lexemes further code file line column end_line end_column message help o level)
+fault_lexed further code file line column end_line end_column message help o level (c, f, l, k, n, e, m, h, w, v) =
     then (then (then (then (then (then
-    (begun code file line column message (codes "error") c f l k m error_utf8)
+    (begun code file line column message level c f l k m v)
     (number_lexed _ end_line _ front.end_line_front n)) (number_lexed _ end_column _ front.end_column_front e))
     front.located_piece) (fixes file line column end_line end_column help o f l k n e h w)) (further_lexed further))
     front.closing_piece
 
-fault_first : (further : Bool) (code file : Text) (line column end_line end_column : ℕ) (message help : Text) (o : Option Text)
+fault_first : (further : Bool) (code file : Text) (line column end_line end_column : ℕ) (message help : Text) (o : Option Text) (level : Text)
     (more : List Lexeme)
-    → punctuate fresh (drop 1 (fault_lexemes further code file line column end_line end_column message help o) ++ more)
-    ≡ json_tokens (result_value (fault further code file line column end_line end_column message help o))
+    → punctuate fresh (drop 1 (fault_lexemes further code file line column end_line end_column message help o level) ++ more)
+    ≡ json_tokens (result_value (fault further code file line column end_line end_column message help o level))
     ++ punctuate after_value more
 unfolding punctuate
-fault_first true code file line column end_line end_column message help None more = refl
-fault_first true code file line column end_line end_column message help (Some word) more = refl
-fault_first false code file line column end_line end_column message help None more = refl
-fault_first false code file line column end_line end_column message help (Some word) more = refl
+fault_first true code file line column end_line end_column message help None level more = refl
+fault_first true code file line column end_line end_column message help (Some word) level more = refl
+fault_first false code file line column end_line end_column message help None level more = refl
+fault_first false code file line column end_line end_column message help (Some word) level more = refl
 
-fault_next : (further : Bool) (code file : Text) (line column end_line end_column : ℕ) (message help : Text) (o : Option Text)
+fault_next : (further : Bool) (code file : Text) (line column end_line end_column : ℕ) (message help : Text) (o : Option Text) (level : Text)
     (more : List Lexeme)
-    → punctuate after_comma (drop 1 (fault_lexemes further code file line column end_line end_column message help o) ++ more)
-    ≡ json_tokens (result_value (fault further code file line column end_line end_column message help o))
+    → punctuate after_comma (drop 1 (fault_lexemes further code file line column end_line end_column message help o level) ++ more)
+    ≡ json_tokens (result_value (fault further code file line column end_line end_column message help o level))
     ++ punctuate after_value more
 unfolding punctuate
-fault_next true code file line column end_line end_column message help None more = refl
-fault_next true code file line column end_line end_column message help (Some word) more = refl
-fault_next false code file line column end_line end_column message help None more = refl
-fault_next false code file line column end_line end_column message help (Some word) more = refl
+fault_next true code file line column end_line end_column message help None level more = refl
+fault_next true code file line column end_line end_column message help (Some word) level more = refl
+fault_next false code file line column end_line end_column message help None level more = refl
+fault_next false code file line column end_line end_column message help (Some word) level more = refl
 
-fault_shallow : (further : Bool) (code file : Text) (line column end_line end_column : ℕ) (message help : Text) (o : Option Text)
-    → depth (result_value (fault further code file line column end_line end_column message help o)) ≤ 100
-fault_shallow true code file line column end_line end_column message help None = omega arith
-fault_shallow true code file line column end_line end_column message help (Some word) = omega arith
-fault_shallow false code file line column end_line end_column message help None = omega arith
-fault_shallow false code file line column end_line end_column message help (Some word) = omega arith
+fault_shallow : (further : Bool) (code file : Text) (line column end_line end_column : ℕ) (message help : Text) (o : Option Text) (level : Text)
+    → depth (result_value (fault further code file line column end_line end_column message help o level)) ≤ 100
+fault_shallow true code file line column end_line end_column message help None level = omega arith
+fault_shallow true code file line column end_line end_column message help (Some word) level = omega arith
+fault_shallow false code file line column end_line end_column message help None level = omega arith
+fault_shallow false code file line column end_line end_column message help (Some word) level = omega arith
 
-fault_distinct : (further : Bool) (code file : Text) (line column end_line end_column : ℕ) (message help : Text) (o : Option Text)
-    → HasUniqueKeys (result_value (fault further code file line column end_line end_column message help o))
-fault_distinct true code file line column end_line end_column message help None =
-    unique_keys (result_value (fault true code file line column end_line end_column message help None)) refl
-fault_distinct true code file line column end_line end_column message help (Some word) =
-    unique_keys (result_value (fault true code file line column end_line end_column message help (Some word))) refl
-fault_distinct false code file line column end_line end_column message help None =
-    unique_keys (result_value (fault false code file line column end_line end_column message help None)) refl
-fault_distinct false code file line column end_line end_column message help (Some word) =
-    unique_keys (result_value (fault false code file line column end_line end_column message help (Some word))) refl
+fault_distinct : (further : Bool) (code file : Text) (line column end_line end_column : ℕ) (message help : Text) (o : Option Text) (level : Text)
+    → HasUniqueKeys (result_value (fault further code file line column end_line end_column message help o level))
+fault_distinct true code file line column end_line end_column message help None level =
+    unique_keys (result_value (fault true code file line column end_line end_column message help None level)) refl
+fault_distinct true code file line column end_line end_column message help (Some word) level =
+    unique_keys (result_value (fault true code file line column end_line end_column message help (Some word) level)) refl
+fault_distinct false code file line column end_line end_column message help None level =
+    unique_keys (result_value (fault false code file line column end_line end_column message help None level)) refl
+fault_distinct false code file line column end_line end_column message help (Some word) level =
+    unique_keys (result_value (fault false code file line column end_line end_column message help (Some word) level)) refl
 
 note_lexed : (code file : Text) (line column : ℕ) (message level : Text) → IsProper (note code file line column message level)
     → Lexes (drawing.note_result code file line column message level)
@@ -193,14 +192,14 @@ note_lexed code file line column message level (c, f, l, k, m, v) =
 -- Each result is a comma and a value.
 pub is_next : (r : Result) → IsProper r → IsNext (drop 1 (result_text r)) (result_value r)
 unfolding punctuate
-is_next (fault further code file line column end_line end_column message help o) proper = record {
-  ls = drop 1 (fault_lexemes further code file line column end_line end_column message help o);
-  lexed = fault_lexed further code file line column end_line end_column message help o proper;
+is_next (fault further code file line column end_line end_column message help o level) proper = record {
+  ls = drop 1 (fault_lexemes further code file line column end_line end_column message help o level);
+  lexed = fault_lexed further code file line column end_line end_column message help o level proper;
   open_end = λ rest. refl;
-  first = fault_first further code file line column end_line end_column message help o;
-  next = fault_next further code file line column end_line end_column message help o;
-  shallow = fault_shallow further code file line column end_line end_column message help o;
-  distinct = fault_distinct further code file line column end_line end_column message help o;
+  first = fault_first further code file line column end_line end_column message help o level;
+  next = fault_next further code file line column end_line end_column message help o level;
+  shallow = fault_shallow further code file line column end_line end_column message help o level;
+  distinct = fault_distinct further code file line column end_line end_column message help o level;
 }
 is_next (note code file line column message level) proper = record {
   ls = drop 1 (begun_lexemes code level message file line column ++ front.note_closing_lexemes);

@@ -5,22 +5,22 @@ use Rattle.timefd_web.specs.JsonLaws.Logs.{AllItems, Has, IsSarifResult, IsText,
 use Rattle.timefd_web.specs.JsonLaws.Results.{Result, fault, note, result_value}
 
 is_result : (r : Result) → IsSarifResult (result_value r)
-is_result (fault true code file line column end_line end_column message help None) = record {
+is_result (fault true code file line column end_line end_column message help None level) = record {
   message = (_, refl, (_, refl, (_, refl)));
   rule_id = (_, refl, (_, refl));
   locations = (_, refl, (_, refl, ((_, refl, (_, refl, (_, refl, (_, refl)))), tt)));
 }
-is_result (fault true code file line column end_line end_column message help (Some word)) = record {
+is_result (fault true code file line column end_line end_column message help (Some word) level) = record {
   message = (_, refl, (_, refl, (_, refl)));
   rule_id = (_, refl, (_, refl));
   locations = (_, refl, (_, refl, ((_, refl, (_, refl, (_, refl, (_, refl)))), tt)));
 }
-is_result (fault false code file line column end_line end_column message help None) = record {
+is_result (fault false code file line column end_line end_column message help None level) = record {
   message = (_, refl, (_, refl, (_, refl)));
   rule_id = (_, refl, (_, refl));
   locations = (_, refl, (_, refl, ((_, refl, (_, refl, (_, refl, (_, refl)))), tt)));
 }
-is_result (fault false code file line column end_line end_column message help (Some word)) = record {
+is_result (fault false code file line column end_line end_column message help (Some word) level) = record {
   message = (_, refl, (_, refl, (_, refl)));
   rule_id = (_, refl, (_, refl));
   locations = (_, refl, (_, refl, ((_, refl, (_, refl, (_, refl, (_, refl)))), tt)));

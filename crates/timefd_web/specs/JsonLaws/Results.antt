@@ -7,15 +7,15 @@ use Rattle.timefd_lint_drawing.specs.Sarif.{uri}
 use Rattle.timefd_web.specs.JsonLaws.Meaning.{IsJson}
 use Rattle.timefd_web.specs.JsonLaws.Objects.{IsNumber64, IsWord, number_member, text_member}
 
--- What a result holds: one for a fault of a text, and one for a whole text or a file.
+-- What a result holds: one with the end of a part, and one without it.
 pub data Result : Type 0 where
-  fault : Bool → Text → Text → ℕ → ℕ → ℕ → ℕ → Text → Text → Option Text → Result
+  fault : Bool → Text → Text → ℕ → ℕ → ℕ → ℕ → Text → Text → Option Text → Text → Result
   note : Text → Text → ℕ → ℕ → Text → Text → Result
 
 -- The result after a comma.
 abbrev pub result_text : Result → Text
-result_text (fault further code file line column end_line end_column message help replacement) =
-    drawing.result further code file line column end_line end_column message help replacement
+result_text (fault further code file line column end_line end_column message help replacement level) =
+    drawing.result further code file line column end_line end_column message help replacement level
 result_text (note code file line column message level) = drawing.note_result code file line column message level
 
 abbrev pub words : Text → Json
@@ -64,17 +64,17 @@ begun code level message at others =
     (member (codes "message") (words message) (member (codes "locations") (only at) others))))
 
 abbrev pub result_value : Result → Json
-result_value (fault further code file line column end_line end_column message help replacement) =
-    begun code (codes "error") message (location file line column (ends end_line end_column))
+result_value (fault further code file line column end_line end_column message help replacement level) =
+    begun code level message (location file line column (ends end_line end_column))
     (fixes_member file line column end_line end_column help replacement (further_member further))
 result_value (note code file line column message level) =
     begun code level message (location file line column no_members) no_members
 
 -- Its texts are UTF-8, and its numbers are those of a `u64`.
 abbrev pub IsProper : Result → Type 0
-IsProper (fault further code file line column end_line end_column message help replacement) =
+IsProper (fault further code file line column end_line end_column message help replacement level) =
     IsUtf8 code × IsUtf8 file × IsNumber64 line × IsNumber64 column × IsNumber64 end_line × IsNumber64 end_column
-    × IsUtf8 message × IsUtf8 help × IsWord replacement
+    × IsUtf8 message × IsUtf8 help × IsWord replacement × IsUtf8 level
 IsProper (note code file line column message level) =
     IsUtf8 code × IsUtf8 file × IsNumber64 line × IsNumber64 column × IsUtf8 message × IsUtf8 level
 

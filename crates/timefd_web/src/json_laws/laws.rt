@@ -2,7 +2,7 @@
 
 ghost use Rattle.timefd_web.specs.JsonLaws.Logs.{LogsAreJson, LogsAreSarif};
 ghost use Rattle.timefd_web.specs.JsonLaws.Meaning.{StringsReadBack};
-ghost use Rattle.timefd_web.specs.JsonLaws.Objects.{NotesAreJson, ObjectsAreJson, WarningsAreJson};
+ghost use Rattle.timefd_web.specs.JsonLaws.Objects.{ObjectsAreJson};
 ghost use Rattle.timefd_web.specs.JsonLaws.Results.{ResultsAreJson};
 
 /// A text in quotes is a JSON string that reads back as the text.
@@ -10,19 +10,9 @@ pub fn strings_read_back()
     ensures { StringsReadBack }
 {}
 
-/// An object for a fault of a text is JSON with exactly its keys, each once, and its texts read back.
+/// An object for a finding is JSON with exactly its keys, each once, and its texts read back.
 pub fn objects_are_json()
     ensures { ObjectsAreJson }
-{}
-
-/// So is an object for when no text was looked at.
-pub fn notes_are_json()
-    ensures { NotesAreJson }
-{}
-
-/// So is an object for a warning.
-pub fn warnings_are_json()
-    ensures { WarningsAreJson }
 {}
 
 /// So is a SARIF result after its comma.
