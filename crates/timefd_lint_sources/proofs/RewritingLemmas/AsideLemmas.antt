@@ -1,5 +1,5 @@
 -- Items that are set aside.
-use Rattle.std.proofs.Common.{ℕ, zero, suc, ◌≡◌, ◌-◌, ◌==◌, true, false, [], ◌∷◌, ◌++◌, length, inl, inr, refl, sym, ap, subst, ◌∙◌, arith, append_assoc, true≢false, List}
+use Rattle.std.proofs.Common.{ℕ, zero, suc, ◌≡◌, ◌-◌, [], ◌∷◌, ◌++◌, length, inl, inr, refl, sym, ap, subst, ◌∙◌, arith, append_assoc, List}
 use Rattle.std.specs.Prelude.{Option, None, Some, Result, Ok, Err, IfOk, IfSome, MatchOption, codes, string_bytes}
 use Rattle.std.specs.Borrow.{Bor}
 use Rattle.std.specs.declared.alloc.Global.{Global}
@@ -14,7 +14,7 @@ use Rattle.timefd_lint_rewrite.specs.declared.layout.Layout.{Layout}
 use Rattle.timefd_parse.proofs.BracketLemmas.{same_cut}
 use Rattle.timefd_parse.specs.BracketParts.{BeginsNamed, BeginsNested}
 use Rattle.timefd_lint_sources.specs.Items.{IsItemFault}
-use Rattle.timefd_lint_sources.specs.Rewriting.Aside.{AreConverted, AreNestsConverted, IsConvertedWithin, IsItemConverted, IsNestConverted, IsSetAside, mark}
+use Rattle.timefd_lint_sources.specs.Rewriting.Aside.{AreNestsConverted, IsConvertedWithin, IsItemConverted, IsNestConverted, IsSetAside, mark}
 
 -- What holds of an answer because something else does.
 pub in_answer : {E : Type 0} (P Q : Text → Type 0) (r : Result (Option (String Global)) E) → ((t : Text) → P t → Q t)
@@ -94,10 +94,10 @@ pub at_once : (most : ℕ) (v : DescriptionVersion) (layout : Layout) (text answ
 at_once zero v layout text answer is = is
 at_once (suc n) v layout text answer is = inl is
 
-pub one_more : (most n : ℕ) (v : DescriptionVersion) (layout : Layout) (text answer : Text) → most == 0 ≡ false
+pub one_more : (most n : ℕ) (v : DescriptionVersion) (layout : Layout) (text answer : Text) → (most ≡ 0 → ⊥)
     → n ≡ most - 1 → IsSetAside (IsConvertedWithin n v layout) n v layout text answer
     → IsConvertedWithin most v layout text answer
-one_more zero n v layout text answer none is aside = absurd (true≢false none)
+one_more zero n v layout text answer none is aside = absurd (none refl)
 one_more (suc m) n v layout text answer none is aside =
     let same : n ≡ m = omega (arith, is) in
     inr (subst (λ k. IsSetAside (IsConvertedWithin k v layout) k v layout text answer) same aside)

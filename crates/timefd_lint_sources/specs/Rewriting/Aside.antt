@@ -1,6 +1,6 @@
 -- Descriptions with `[optional [..]]` and `[first [..] [..]]`, converted. What such an item nests is converted by itself. The
 -- item is set aside, with a mark at its position, while the text around it is converted.
-use Rattle.std.specs.Prelude.{ℕ, zero, suc, ◌≡◌, ◌==◌, ◌⊎◌, Bool, true, false, List, [], ◌∷◌, ◌++◌, codes, decimal, length, Option, None, Some, IsFalse}
+use Rattle.std.specs.Prelude.{ℕ, zero, suc, ◌≡◌, ◌==◌, ◌⊎◌, Bool, List, [], ◌∷◌, ◌++◌, codes, decimal, length, Option, None, Some, IsFalse}
 use Rattle.std.specs.List.{list_any}
 use Rattle.timefd_lang_component.specs.Tree.{Text, Tree}
 use Rattle.timefd_lang_convert.specs.declared.conversion.Conversion.{Conversion}

@@ -1,4 +1,4 @@
-use Rattle.std.proofs.Common.{ℕ, ◌+◌, ◌*◌}
+use Rattle.std.proofs.Common.{◌+◌, ◌*◌}
 use Rattle.timefd_lint_sources.proofs.rewriting.aside.+aside.Given as goal
 
 abbrev pub decreases-converted_within : goal.decreases-converted_within
