@@ -1,5 +1,5 @@
 -- What becomes of a file that may be rewritten.
-use Rattle.std.proofs.Common.{◌≡◌, true, false, [], Option, Some, None, refl, sym, string_bytes, subst, ◌∙◌}
+use Rattle.std.proofs.Common.{◌≡◌, ◌++◌, true, false, [], Option, Some, None, refl, sym, string_bytes, subst, ◌∙◌}
 use Rattle.std.specs.Io.KnownBytes.{Appends}
 use Rattle.std.specs.Prelude.{IsFalse}
 use Rattle.timefd_lang_component.specs.Tree.{Text}
@@ -49,8 +49,14 @@ in_nothing options rewriting name old before none is =
     (subst (λ l. IsFoundByChange options l name old before before None) (sym is) refl)
 
 -- A diff that is shown without colours.
-pub shows : (audience : Audience) (file old new diff plain text : Text) (before after : Option Text)
-    → WritesDiff file old new (Some []) (Some diff) → plain ≡ without_colors audience diff → text ≡ plain
-    → Appends before after text → ShowsDiff audience file old new before after
-shows audience file old new diff plain text before after is without same written =
+pub shows : (audience : Audience) (head file old new diff plain text : Text) (before after : Option Text)
+    → WritesDiff file old new (Some head) (Some diff) → plain ≡ without_colors audience diff → text ≡ plain
+    → Appends before after text → ShowsDiff audience head file old new before after
+shows audience head file old new diff plain text before after is without same written =
     (diff, is, subst (λ t. Appends before after t) (same ∙ without) written)
+
+-- A diff that is written after a text.
+pub after_head : (file old new head bytes begun diff : Text) → begun ≡ [] ++ bytes → bytes ≡ head
+    → WritesDiff file old new (Some begun) (Some diff) → WritesDiff file old new (Some head) (Some diff)
+after_head file old new head bytes begun diff is same writes =
+    subst (λ t. WritesDiff file old new (Some t) (Some diff)) (is ∙ same) writes

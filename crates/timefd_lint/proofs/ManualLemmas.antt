@@ -1,15 +1,13 @@
 -- Notes on descriptions that have to be changed manually.
 use Rattle.std.proofs.Common.{Bool, true, false, string_bytes, ℕ, ◌≡◌, ◌∙◌, ◌+◌, ◌-◌, ◌<◌, ◌++◌, ◌∷◌, [], min, List, Option, None, Some, inl, inr, refl, ap, arith, subst, sym, length, drop, length-drop}
-use Rattle.std.specs.Prelude.{IfSome, IsUtf8, String, option_map}
+use Rattle.std.specs.Prelude.{Result, Ok, Err, IfOk, IfSome, IsUtf8, String, option_map}
 use Rattle.std.specs.List.{list_any}
 use Rattle.std.specs.declared.alloc.Global.{Global}
 use denote.Ref.{Bor}
 use Rattle.timefd_lang_component.specs.Tree.{Text}
-use Rattle.timefd_lang_fault.specs.declared.invalid_format_description.InvalidFormatDescription.{InvalidFormatDescription}
-use Rattle.timefd_lang_fault.specs.declared.parse_error.ParseError.{ParseError}
-use Rattle.timefd_lang_fault.specs.declared.parse_error.ParseError.TheVariants.{Invalid}
+use Rattle.timefd_lang_fault.specs.Faults.{Fault}
 use Rattle.timefd_lint_rewrite.specs.declared.layout.Layout.{Layout}
-use Rattle.timefd_lint_rewrite.specs.Layouts.{IsRefusal}
+use Rattle.timefd_lint_rewrite.specs.Layouts.{IsRefusedFor}
 use Rattle.timefd_lint_scan.specs.declared.description.SourceDescription.{SourceDescription}
 use Rattle.timefd_lint_scan.specs.Found.{AreDescriptionsOf}
 use Rattle.timefd_lint_sources.specs.Judged.{text_of}
@@ -17,7 +15,6 @@ use Rattle.timefd_lint_sources.specs.Rewriting.Changes.{layout_of}
 use Rattle.timefd_lint_sources.specs.Rewriting.Written.{Becoming, IsLaidOutBy}
 use Rattle.timefd_lint_sources.specs.declared.rewriting.change.Change.{Change}
 use Rattle.timefd_lint_sources.specs.declared.rewriting.outcome.Outcome.{Outcome}
-use Rattle.timefd_lint_sources.proofs.RewritingLemmas.AnswerLemmas.{is_refused}
 use Rattle.timefd_lint_drawing.specs.Positions.{column, line_number}
 use Rattle.timefd_lint_drawing.specs.Shown.{safe}
 use Rattle.timefd_lint.specs.Manual.{AddsNote, AddsReason, AreNotes, AreNotesIf, AreNotesOn, AreNotesTo, BecomesNothing, note, place, position, version_of, wants_hand}
@@ -33,16 +30,14 @@ pub no_utf8 : (change : Change) (d : SourceDescription) (text : Text) → text �
     → BecomesNothing change d
 no_utf8 change d text same none = inr (inl (subst (λ (t : Text). ¬ IsUtf8 t) same none))
 
-pub refused_by : (change : Change) (d : SourceDescription) (layout : Layout) (text : Text) (e : ParseError)
-    (f : InvalidFormatDescription) → text ≡ text_of d → IsLaidOutBy change d layout → e ≡ Invalid f
-    → IsRefusal layout text e → BecomesNothing change d
-refused_by change d layout text e f same by which is =
-    inr (inr (
-      layout,
-      by,
-      is_refused layout (text_of d) e f which
-          (subst (λ (t : Text). IsRefusal layout t e) same is),
-    ))
+-- Where the layout refuses the text, nothing becomes of it.
+pub refused_by : {E : Type 0} (change : Change) (d : SourceDescription) (layout : Layout) (text : Text)
+    (r : Result (Option (String Global)) E) → text ≡ text_of d → IsLaidOutBy change d layout
+    → IfOk r (λ found. found ≡ None → (f : Fault) × IsRefusedFor layout text f)
+    → IfOk r (λ found. found ≡ None → BecomesNothing change d)
+refused_by change d layout text (Err e) same by is = tt
+refused_by change d layout text (Ok found) same by is = λ none.
+    inr (inr (layout, by, subst (λ (t : Text). (f : Fault) × IsRefusedFor layout t f) same (is none)))
 
 -- The descriptions up to an index have their notes: those on the others decide.
 pub record AreNotedTo (change : Change) (version name source : Text) (ds : List SourceDescription) (os : List Outcome)

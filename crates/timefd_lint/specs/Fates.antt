@@ -31,10 +31,10 @@ fate_of rewriting counts = if nat_eq counts.rewritten 0 then Same
     else if nat_lt 0 counts.refused && not rewriting.is_partial then LeftOut
     else if rewriting.writes then Replaced else Shown
 
--- The diff of two texts is written, with what people see of it.
-abbrev pub ShowsDiff : Audience → Text → Text → Text → Option Text → Option Text → Type 0
-ShowsDiff audience file old new before after = (diff : Text)
-    × WritesDiff file old new (Some []) (Some diff) × Appends before after (without_colors audience diff)
+-- This and the diff of two texts are written, with what people see of it.
+abbrev pub ShowsDiff : Audience → Text → Text → Text → Text → Option Text → Option Text → Type 0
+ShowsDiff audience head file old new before after = (diff : Text)
+    × WritesDiff file old new (Some head) (Some diff) × Appends before after (without_colors audience diff)
 
 -- What is found in a source, or in the lines of a file. Its messages are written. The bytes are in memory, so no read
 -- of them fails.

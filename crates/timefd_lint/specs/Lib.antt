@@ -23,6 +23,7 @@ pub mod Arguments
 pub mod NoneOf
 pub mod NoCodes
 pub mod Limited
+pub mod Releases
 pub mod Stores
 pub mod ValueNotes
 pub mod Projects

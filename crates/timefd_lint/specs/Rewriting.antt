@@ -107,7 +107,7 @@ left_out false file unit counts =
     codes "no diff of " ++ (file ++ (codes ": " ++ (part counts.refused unit counts.lines
     ++ (codes " " ++ (be counts.refused ++ codes " refused; --write --partial rewrites the others\n")))))
 
--- a file that was written back
-abbrev pub rewrote : Text → CountedUnit → Counts → Text
-rewrote file unit counts =
-    codes "rewrote " ++ (file ++ (codes ": " ++ (part counts.rewritten unit counts.lines ++ codes "\n")))
+-- a file that was written back, and the end of that report
+abbrev pub rewrote : Text → CountedUnit → Counts → Text → Text
+rewrote file unit counts end =
+    codes "rewrote " ++ (file ++ (codes ": " ++ (part counts.rewritten unit counts.lines ++ (end ++ codes "\n"))))

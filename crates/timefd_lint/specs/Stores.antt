@@ -15,6 +15,7 @@ use Rattle.timefd_lint.specs.declared.fate.Fate.TheVariants.{Same, LeftOut, Repl
 use Rattle.timefd_lint.specs.declared.tally.LintTally.{LintTally}
 use Rattle.timefd_lint.specs.Fates.{IsFoundIn, IsNoted, ShowsDiff, Reports, fate_of, tally_in}
 use Rattle.timefd_lint.specs.Identities.{is_met}
+use Rattle.timefd_lint.specs.Releases.{end_of, head_of}
 use Rattle.timefd_lint.specs.Reported.{both, tally_of}
 use Rattle.timefd_lint.specs.Rewriting.{left_out, rewrote}
 
@@ -41,11 +42,11 @@ pub record OnlyReports {S : Type 0} (a b : Stage S) : Type 0 where
   pub messages : b.messages ≡ a.messages
   pub has_failed : b.has_failed ≡ a.has_failed
 
--- A file is replaced by just the bytes that are found for it, and that is reported to people.
-pub record IsWrittenBack {S : Type 0} (replaces : S → Text → Text → S → Type 0) (name : Text) (file : Text)
+-- A file is replaced by just the bytes that are found for it, and that is reported to people, with this end.
+pub record IsWrittenBack {S : Type 0} (replaces : S → Text → Text → S → Type 0) (name : Text) (file end : Text)
     (found : FoundInFile) (a b : Stage S) (tally : LintTally) : Type 0 where
   pub replaced : replaces a.store name found.bytes.items b.store
-  pub messages : Reports a.messages b.messages b.has_failed (rewrote file found.unit found.counts)
+  pub messages : Reports a.messages b.messages b.has_failed (rewrote file found.unit found.counts end)
   pub written : b.written ≡ a.written
   pub counted : tally ≡ tally_in found
 
@@ -61,9 +62,9 @@ pub record IsRefused {S : Type 0} (refuses : S → Text → Text → FixError �
   pub counted : tally ≡ both (tally_in found) one
 
 abbrev pub IsReplaced : {S : Type 0} → (S → Text → Text → S → Type 0) → (S → Text → Text → FixError → S → Type 0)
-    → RunOptions → Bor Text → Text → FoundInFile → Stage S → Stage S → LintTally → Type 0
-IsReplaced replaces refuses options name file found a b tally =
-    IsWrittenBack replaces name.now file found a b tally ⊎ IsRefused refuses options name found a b tally
+    → RunOptions → Bor Text → Text → Text → FoundInFile → Stage S → Stage S → LintTally → Type 0
+IsReplaced replaces refuses options name file end found a b tally =
+    IsWrittenBack replaces name.now file end found a b tally ⊎ IsRefused refuses options name found a b tally
 
 -- What becomes of a file in which this is found.
 abbrev pub IsSettled : {S : Type 0} → (S → Text → Text → S → Type 0) → (S → Text → Text → FixError → S → Type 0)
@@ -73,9 +74,10 @@ IsSettled replaces refuses options rewriting audience name old found Same a b ta
 IsSettled replaces refuses options rewriting audience name old found LeftOut a b tally =
     IsReportedTo a b (left_out rewriting.writes (safe name.now) found.unit found.counts) × (tally ≡ tally_in found)
 IsSettled replaces refuses options rewriting audience name old found Replaced a b tally =
-    IsReplaced replaces refuses options name (safe name.now) found a b tally
+    IsReplaced replaces refuses options name (safe name.now) (end_of options rewriting name.now) found a b tally
 IsSettled replaces refuses options rewriting audience name old found Shown a b tally = OnlyReports a b
-    × ShowsDiff audience (safe name.now) old found.bytes.items a.written b.written × (tally ≡ tally_in found)
+    × ShowsDiff audience (head_of options rewriting name.now) (safe name.now) old found.bytes.items a.written b.written
+    × (tally ≡ tally_in found)
 
 -- What is found in a file with these bytes is reported, then the notes on it, and then it is settled.
 pub record IsFoundDone {S : Type 0} (replaces : S → Text → Text → S → Type 0)

@@ -13,6 +13,7 @@ use crate::line::{LintError, write};
 use crate::lines::failed;
 use crate::options::RunOptions;
 use crate::output::{Audience, without_colors};
+use crate::release::{end_of, head_of};
 use crate::rewrite_report::{left_out, rewrote};
 use crate::rewriting::Rewriting;
 use crate::store::Store;
@@ -77,37 +78,50 @@ pub fn settle<S: Store, E: Sink, W: Sink>(
             report(errors, &message);
             Ok(tally_of(found))
         }
-        Fate::Replaced => replace(
-            store, alloc, options, name, &file, old, found, errors, output,
-        ),
+        Fate::Replaced => {
+            let end = end_of(options, rewriting, name);
+            replace(
+                store, alloc, options, name, &file, end, old, found, errors, output,
+            )
+        }
         Fate::Shown => {
-            show_diff(alloc, audience, &file, &old.bytes, &found.bytes, output)?;
+            let head = head_of(options, rewriting, name);
+            show_diff(
+                alloc,
+                audience,
+                head,
+                &file,
+                &old.bytes,
+                &found.bytes,
+                output,
+            )?;
             Ok(tally_of(found))
         }
     }
 }
 
-// Replaces a file by the bytes that are found for it, or notes why it stays.
+// Replaces a file by the bytes that are found for it, and reports that with this end, or notes why it stays.
 fn replace<S: Store, E: Sink, W: Sink>(
     store: &mut S,
     alloc: Global,
     options: RunOptions<'_>,
     name: &str,
     file: &str,
+    end: &str,
     old: &Original<S::File>,
     found: &FoundInFile,
     errors: &mut E,
     output: &mut W,
 ) -> Result<LintTally, LintError>
     ensures replaced { IfOk result (stores.IsReplaced S.replaces S.refuses options.entry name.entry file.now
-        found.now
+        end.now found.now
         (stores.stage store.old (E.contents errors.old) (E.has_failed errors.old) (W.contents output.old))
         (stores.stage store.new (E.contents errors.new) (E.has_failed errors.new) (W.contents output.new))) }
     ensures unwritten { IfErr result (IsCausedBy (W.has_failed output.new)) }
 {
     match store.replace(alloc, name, old, &found.bytes) {
         Ok(()) => {
-            let message = rewrote(alloc, file, found.unit, found.counts)?;
+            let message = rewrote(alloc, file, found.unit, found.counts, end)?;
             report(errors, &message);
             Ok(tally_of(found))
         }
@@ -158,31 +172,40 @@ pub fn noted<W: Sink>(
     }
 }
 
-// Shows what changes in a file. A diff has no colours: an escape in it is one of the file.
+// Shows what changes in a file, after this text. A diff has no colours: an escape in it is one of the file.
 #[tactic(auto, using(crate::proofs::FateLemmas::shows))]
 fn show_diff<W: Sink>(
     alloc: Global,
     audience: Audience,
+    head: &str,
     file: &str,
     old: &[u8],
     new: &[u8],
     output: &mut W,
 ) -> Result<(), LintError>
-    ensures shown { OnOk result (fates.ShowsDiff audience file.now old.now new.now
+    ensures shown { OnOk result (fates.ShowsDiff audience head.now file.now old.now new.now
         (W.contents output.old) (W.contents output.new)) }
     ensures unwritten { IfErr result (IsCausedBy (W.has_failed output.new)) }
 {
-    let diff = diff_of(alloc, file, old, new)?;
+    let diff = diff_of(alloc, head, file, old, new)?;
     let shown = without_colors(alloc, audience, diff)?;
     write(output, &shown)
 }
 
-// What changes in a file, as a diff.
-fn diff_of(alloc: Global, file: &str, old: &[u8], new: &[u8]) -> Result<Vec<u8>, LintError>
-    ensures diff { IfOk result (λ diff. WritesDiff file.now old.now new.now (Some []) (Some diff.items)) }
+// What changes in a file, as a diff after this text.
+#[tactic(auto, using(crate::proofs::FateLemmas::after_head))]
+fn diff_of(
+    alloc: Global,
+    head: &str,
+    file: &str,
+    old: &[u8],
+    new: &[u8],
+) -> Result<Vec<u8>, LintError>
+    ensures diff { IfOk result (λ diff. WritesDiff file.now old.now new.now (Some head.now) (Some diff.items)) }
     ensures memory { IfErr result (λ e. e ≡ errors.Memory) }
 {
     let mut diff = Vec::new(alloc);
+    diff.extend_from_slice(head.as_bytes())?;
     match write_diff(alloc, file, old, new, &mut diff) {
         Ok(()) => Ok(diff),
         // The writer is in memory, so only memory can run out.

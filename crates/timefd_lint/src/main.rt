@@ -30,6 +30,7 @@ mod page;
 mod parts;
 mod progress;
 mod projects;
+mod release;
 mod rewrite_report;
 mod rewriting;
 mod rewritten;

@@ -59,15 +59,16 @@ pub fn left_out(
     }
 }
 
-/// What is reported about a file that was written back. An `Err` says that memory ran out.
+/// What is reported about a file that was written back, with this end. An `Err` says that memory ran out.
 pub fn rewrote(
     alloc: Global,
     file: &str,
     unit: CountedUnit,
     counts: Counts,
+    end: &str,
 ) -> Result<String, AllocError>
-    ensures { IfOk result (λ text. string_bytes text ≡ spec.rewrote file.now unit counts) }
+    ensures { IfOk result (λ text. string_bytes text ≡ spec.rewrote file.now unit counts end.now) }
 {
     let part = part(alloc, counts.rewritten, unit, counts.lines)?;
-    format!(in alloc; "rewrote {file}: {part}\n")
+    format!(in alloc; "rewrote {file}: {part}{end}\n")
 }

@@ -20,7 +20,7 @@ use timefd_lint_sources::allowances::allowances_in;
 use timefd_lint_sources::{Finder, ItemEnd, SourceText};
 
 /// Whether a file with this name is read as a source of Rust.
-fn is_rust(options: RunOptions<'_>, name: &str) -> bool
+pub fn is_rust(options: RunOptions<'_>, name: &str) -> bool
     ensures { result ≡ spec.is_rust options.entry name.now }
 {
     options.is_source || name.as_bytes().ends_with(b".rs")

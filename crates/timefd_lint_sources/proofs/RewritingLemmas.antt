@@ -1,3 +1,4 @@
 pub mod AnswerLemmas
+pub mod AsideLemmas
 pub mod SourceLemmas
 pub mod ValueLemmas

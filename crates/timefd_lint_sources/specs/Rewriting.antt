@@ -1,3 +1,4 @@
 pub mod Changes
+pub mod Aside
 pub mod Written
 pub mod Values

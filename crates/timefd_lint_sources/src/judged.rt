@@ -105,9 +105,9 @@ fn opened_bytes(
     }
 }
 
-// The version in which a description's place takes items that `parse` refuses; `None` if it doesn't take
-// them.
-fn taking(items: Items, dialect: FormatLanguage) -> Option<DescriptionVersion>
+/// The version in which a description's place takes items that `parse` refuses; `None` if it doesn't take
+/// them.
+pub(crate) fn taking(items: Items, dialect: FormatLanguage) -> Option<DescriptionVersion>
     ensures { result ≡ spec.taking items dialect }
 {
     match items {

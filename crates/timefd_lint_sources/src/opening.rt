@@ -60,8 +60,9 @@ pub fn opened_once(
     }
 }
 
-// Where the bracket begins that only `parse` refuses, if the first fault of the text is such a bracket.
-fn item_index(
+/// Where the bracket begins that only `parse` refuses, if the first fault of the text is such a bracket. An `Err` says that
+/// memory ran out.
+pub fn item_index(
     alloc: Global,
     version: DescriptionVersion,
     text: &str,

@@ -3,11 +3,14 @@
 //! Every other byte stays.
 
 mod answer;
+mod aside;
 mod change;
 mod counts;
 mod found;
+mod item;
 mod outcome;
 mod source;
+mod text;
 mod value;
 mod values;
 
@@ -17,5 +20,6 @@ pub use counts::{count_refused, count_rewritten};
 pub use found::rewrite_found;
 pub use outcome::Outcome;
 pub use source::{NewSource, rewrite_all, rewrite_source};
+pub use text::text_by;
 pub use value::value_change;
 pub use values::rewrite_values;

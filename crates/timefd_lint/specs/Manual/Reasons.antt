@@ -9,7 +9,8 @@ use Rattle.timefd_lint.specs.Manual.Calls.{call_before, name, numbered}
 
 abbrev pub with_items : Text → Text
 with_items version =
-    codes "the conversion to version " ++ (version ++ codes " takes neither `[optional ..]` nor `[first ..]`")
+    codes "the conversion to version "
+    ++ (version ++ codes " takes at most 100 `[optional ..]` and `[first ..]`, and no U+0001 beside them")
 
 -- a call with a number for the version
 abbrev pub numbered_call : Text → Text → Text → Text

@@ -13,7 +13,7 @@ pub fn with_items(alloc: Global, version: &str) -> Result<String, AllocError>
     ensures { IfOk result (λ text. string_bytes text ≡ spec.with_items version.now) }
 {
     format!(in alloc;
-        "the conversion to version {version} takes neither `[optional ..]` nor `[first ..]`"
+        "the conversion to version {version} takes at most 100 `[optional ..]` and `[first ..]`, and no U+0001 beside them"
     )
 }
 

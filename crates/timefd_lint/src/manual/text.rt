@@ -7,10 +7,9 @@ ghost use Rattle.timefd_lint_sources.specs.Rewriting.Written.{Becoming, IsLaidOu
 
 use std::alloc::{AllocError, Global};
 use std::str;
-use timefd_lint_rewrite::{Layout, lay_out};
+use timefd_lint_rewrite::Layout;
 use timefd_lint_scan::SourceDescription;
-use timefd_lint_sources::rewriting::{Change, layout_of};
-use timefd_parse::ParseError;
+use timefd_lint_sources::rewriting::{Change, layout_of, text_by};
 
 /// The text that a description would become. `None` if there is none. An `Err` says that memory ran out.
 #[tactic(auto, using(crate::proofs::ManualLemmas::no_layout, crate::proofs::ManualLemmas::no_utf8))]
@@ -34,7 +33,6 @@ pub fn new_text(
 }
 
 // The text that a description with this text would become in this layout. `None` if it is refused.
-#[tactic(auto, using(timefd_lint_sources::proofs::RewritingLemmas::AnswerLemmas::becoming, crate::proofs::ManualLemmas::refused_by))]
 fn laid_out(
     alloc: Global,
     change: Change,
@@ -48,9 +46,5 @@ fn laid_out(
         (λ new. Becoming change description.now (string_bytes new))) }
     ensures stays { IfOk result (λ found. found ≡ None → BecomesNothing change description.now) }
 {
-    match lay_out(alloc, layout, text) {
-        Ok(new) => Ok(Some(new)),
-        Err(ParseError::Invalid(_fault)) => Ok(None),
-        Err(ParseError::Memory(error)) => Err(error),
-    }
+    text_by(alloc, layout, description, text)
 }

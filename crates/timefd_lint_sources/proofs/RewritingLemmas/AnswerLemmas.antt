@@ -6,6 +6,7 @@ use Rattle.timefd_lang_fault.specs.declared.invalid_format_description.InvalidFo
 use Rattle.timefd_lang_fault.specs.Faults.{Fault, fault_of}
 use Rattle.timefd_lang_fault.specs.declared.parse_error.ParseError.{ParseError}
 use Rattle.timefd_lang_fault.specs.declared.parse_error.ParseError.TheVariants.{Invalid}
+use Rattle.timefd_language.specs.declared.description_version.DescriptionVersion.{DescriptionVersion}
 use Rattle.timefd_lint_rewrite.specs.declared.layout.Layout.{Layout}
 use Rattle.timefd_lint_rewrite.specs.Layouts.{IsConverted, IsRefusal, IsRefusedFor}
 use Rattle.timefd_lint_rewrite.proofs.LineChangeLemmas.{refused_for}
@@ -16,8 +17,9 @@ use Rattle.timefd_lint_sources.specs.Judged.{text_of}
 use Rattle.timefd_lint_sources.specs.declared.rewriting.answer.Answer.TheVariants.{Stays}
 use Rattle.timefd_lint_sources.specs.declared.rewriting.change.Change.{Change}
 use Rattle.timefd_lint_sources.specs.declared.rewriting.outcome.Outcome.TheVariants.{PassedOver, Same, Refused, WithItems, NotText, NotALiteral, ByHand}
+use Rattle.timefd_lint_sources.specs.Rewriting.Aside.{IsConvertedAround}
 use Rattle.timefd_lint_sources.specs.Rewriting.Changes.{layout_of, new_digit}
-use Rattle.timefd_lint_sources.specs.Rewriting.Written.{Becoming, IsAnswer, IsRewritten, IsChange, IsLaidOutBy, is_sayable, line_ends, old_line_ends}
+use Rattle.timefd_lint_sources.specs.Rewriting.Written.{BecomesBy, Becoming, IsAnswer, IsRewritten, IsChange, IsLaidOutBy, is_sayable, line_ends, old_line_ends}
 
 pub passed_over : (change : Change) (source : Text) (d : SourceDescription) (text : Text) → text ≡ text_of d
     → layout_of change d.dialect text ≡ None → IsAnswer change source d (Stays PassedOver)
@@ -36,13 +38,21 @@ no_text change source d text layout same is none = (
   (subst (λ (t : Text). ¬ IsUtf8 t) same none, (layout, laid_out change d text layout same is)),
 )
 
-pub becoming : (change : Change) (d : SourceDescription) (layout : Layout) (text answer : Text) → text ≡ text_of d
-    → IsLaidOutBy change d layout → IsConverted layout text answer → Becoming change d answer
-becoming change d layout text answer same by is = record {
-  layout = layout;
-  chosen = by;
-  converted = subst (λ (t : Text). IsConverted layout t answer) same is;
-}
+-- The text that a layout gives, or that is known once items are set aside.
+
+pub converts : (d : SourceDescription) (layout : Layout) (text answer : Text) → text ≡ text_of d
+    → IsConverted layout text answer → BecomesBy layout d answer
+converts d layout text answer same is = inl (subst (λ (t : Text). IsConverted layout t answer) same is)
+
+pub converts_around : (d : SourceDescription) (layout : Layout) (text answer : Text) (v : DescriptionVersion)
+    (found : Option DescriptionVersion) → text ≡ text_of d → found ≡ taking d.items d.dialect → found ≡ Some v
+    → IsConvertedAround v layout text answer → BecomesBy layout d answer
+converts_around d layout text answer v found same taken is around =
+    inr (v, sym taken ∙ is, subst (λ (t : Text). IsConvertedAround v layout t answer) same around)
+
+pub becoming : (change : Change) (d : SourceDescription) (layout : Layout) (answer : Text)
+    → IsLaidOutBy change d layout → BecomesBy layout d answer → Becoming change d answer
+becoming change d layout answer by is = record { layout = layout; chosen = by; converted = is }
 
 pub is_refused : (layout : Layout) (text : Text) (e : ParseError) (f : InvalidFormatDescription) → e ≡ Invalid f
     → IsRefusal layout text e → (g : Fault) × IsRefusedFor layout text g

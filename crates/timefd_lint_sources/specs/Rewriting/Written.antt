@@ -4,6 +4,7 @@ use Rattle.std.specs.declared.alloc.Global.{Global}
 use Rattle.std.specs.declared.vec.Vec.{Vec}
 use Rattle.timefd_lang_component.specs.Tree.{Text}
 use Rattle.timefd_lang_fault.specs.Faults.{Fault}
+use Rattle.timefd_language.specs.declared.description_version.DescriptionVersion.{DescriptionVersion}
 use Rattle.timefd_lint_rewrite.specs.declared.layout.Layout.{Layout}
 use Rattle.timefd_lint_rewrite.specs.Layouts.{IsConverted, IsRefusedFor}
 use Rattle.timefd_lint_scan.specs.declared.description.SourceDescription.{SourceDescription}
@@ -21,6 +22,7 @@ use Rattle.timefd_lint_sources.specs.declared.rewriting.change.Change.{Change}
 use Rattle.timefd_lint_sources.specs.declared.rewriting.source.NewSource.{NewSource}
 use Rattle.timefd_lint_sources.specs.declared.rewriting.outcome.Outcome.{Outcome}
 use Rattle.timefd_lint_sources.specs.declared.rewriting.outcome.Outcome.TheVariants.{PassedOver, Same, Rewritten, Refused, WithItems, NotText, NotALiteral, ByHand}
+use Rattle.timefd_lint_sources.specs.Rewriting.Aside.{IsConvertedAround}
 use Rattle.timefd_lint_sources.specs.Rewriting.Changes.{layout_of, new_digit}
 
 abbrev pub is_rewriting : Outcome → Bool
@@ -59,11 +61,16 @@ old_line_ends source d = line_ends_in (inside source d.piece d.kind)
 abbrev pub IsLaidOutBy : Change → SourceDescription → Layout → Type 0
 IsLaidOutBy change d layout = layout_of change d.dialect (text_of d) ≡ Some layout
 
--- The text is converted to the answer, or fixed, in the language of the description.
+-- The text is converted to the answer, or fixed, in the language of the description; or, if its place takes items, converted
+-- with its items set aside.
+abbrev pub BecomesBy : Layout → SourceDescription → Text → Type 0
+BecomesBy layout d answer = IsConverted layout (text_of d) answer
+    ⊎ ((v : DescriptionVersion) × (taking d.items d.dialect ≡ Some v) × IsConvertedAround v layout (text_of d) answer)
+
 pub record Becoming (change : Change) (d : SourceDescription) (answer : Text) : Type 0 where
   pub layout : Layout
   pub chosen : IsLaidOutBy change d layout
-  pub converted : IsConverted layout (text_of d) answer
+  pub converted : BecomesBy layout d answer
 
 -- A literal of the description's kind has no body for the answer, or one that has more or fewer lines.
 abbrev pub IsUnwritable : Text → SourceDescription → Text → Type 0

@@ -11,11 +11,11 @@ ghost use Rattle.timefd_lint_sources.specs.Rewriting.Written as spec;
 use crate::holds_item;
 use crate::rewriting::change::{Change, layout_of, new_digit};
 use crate::rewriting::outcome::Outcome;
+use crate::rewriting::text::text_by;
 use std::alloc::{AllocError, Global};
 use std::str;
-use timefd_lint_rewrite::{Layout, lay_out};
+use timefd_lint_rewrite::Layout;
 use timefd_lint_scan::{SourceDescription, VersionPosition, body_alike, inside};
-use timefd_parse::ParseError;
 
 /// What is new in a literal or next to it.
 #[derive(Drop)]
@@ -69,10 +69,9 @@ fn laid_out(
     requires text { text.now ≡ text_of description.now }
     ensures { IfOk result (IsAnswer change source.now description.now) }
 {
-    match lay_out(alloc, layout, text) {
-        Ok(answer) => becoming(alloc, change, source, description, text, answer.as_str()),
-        Err(ParseError::Invalid(_)) => refused(alloc, change, layout, source, description, text),
-        Err(ParseError::Memory(error)) => Err(error),
+    match text_by(alloc, layout, description, text)? {
+        Some(answer) => becoming(alloc, change, source, description, text, answer.as_str()),
+        None => refused(alloc, change, layout, source, description, text),
     }
 }
 

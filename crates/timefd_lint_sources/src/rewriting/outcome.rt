@@ -15,8 +15,8 @@ pub enum Outcome {
     Rewritten,
     /// Its language refuses it, even after all allowed fixes. It stays as it is.
     Refused,
-    /// It has `[optional ..]` or `[first ..]`, which its place takes, but no conversion of its version
-    /// does. It stays as it is.
+    /// It has `[optional ..]` or `[first ..]`, which its place takes, but can't be fixed or converted with them. It stays as
+    /// it is.
     WithItems,
     /// It isn't UTF-8. It stays as it is.
     NotText,

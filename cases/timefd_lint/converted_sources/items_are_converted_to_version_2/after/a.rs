@@ -1,0 +1,3 @@
+let a = format_description!(version = 2, "[year]\\]-\\[[month][optional [ \\[ [hour][optional [:[minute]]]]]");
+let b = parse_owned::<2>("[first [a\\\\b] [[day]]]");
+let c = parse_owned::<2>("[optional [[year]]]");

@@ -1,0 +1,1 @@
+let a = parse_owned("[day][optional [ [year]]]");

@@ -1,0 +1,1 @@
+let a = format_description!("[day]");

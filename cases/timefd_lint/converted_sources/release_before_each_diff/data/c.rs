@@ -1,0 +1,1 @@
+let c = parse_owned::<2>("[day]");
