@@ -1,6 +1,6 @@
 -- Aliases that a source declares, and where their blocks end.
-use Rattle.std.proofs.Common.{ℕ, ◌≡◌, ◌∙◌, ◌++◌, ◌<◌, ◌≤◌, false, true, List, [], ◌∷◌, ap, arith, drop, length, refl, reverse, sym, tt}
-use Rattle.std.proofs.lemmas.List.{drop_all, reverse-append}
+use Rattle.std.proofs.Common.{ℕ, ◌≡◌, ◌∙◌, ◌++◌, ◌-◌, ◌≤◌, false, true, List, [], ◌∷◌, ap, arith, drop, get_or, length, refl, reverse, subst, sym, take}
+use Rattle.std.proofs.lemmas.List.{drop_all, reverse-append, take_all}
 use Rattle.std.proofs.lemmas.Slice.Eq.{bytes_eq-Decides}
 use Rattle.std.specs.Option.{option_to_list}
 use Rattle.std.specs.Prelude.{Option, Some, None, bytes_eq, codes}
@@ -59,3 +59,16 @@ one_more source ps n left p found old now split is pushed so_far =
     ∙ (ap (λ l. l ++ reverse old) (reverse_option found)
     ∙ (ap (λ l. option_to_list found ++ l) so_far
     ∙ (ap (λ o. option_to_list o ++ aliases_in source (drop left ps)) is ∙ ap (aliases_in source) (sym split)))))
+
+-- Two colons end no statement.
+pub passed_colons : (source : Text) (ps : List PlacedToken) (d : PlacedToken) (until : Option ℕ) → 3 ≤ length ps
+    → bytes_eq (text_of source (get_or ps 0 d)) (codes ":") ≡ true
+    → bytes_eq (text_of source (get_or ps 1 d)) (codes ":") ≡ true → IsUntil source ps until
+    → IsUntil source (get_or ps 2 d ∷ take (length ps - 3) (drop 3 ps)) until
+passed_colons source [] d until long first second is = absurd (omega (arith, long))
+passed_colons source (p ∷ []) d until long first second is = absurd (omega (arith, long))
+passed_colons source (p ∷ q ∷ []) d until long first second is = absurd (omega (arith, long))
+passed_colons source (p ∷ q ∷ r ∷ ps) d until long first second is =
+    let all : take (length (p ∷ q ∷ r ∷ ps) - 3) ps ≡ ps = take_all (length (p ∷ q ∷ r ∷ ps) - 3) ps (omega arith) in
+    subst (λ rest. IsUntil source (r ∷ rest) until) (sym all)
+    (passed_colon source q (r ∷ ps) until second (passed_colon source p (q ∷ r ∷ ps) until first is))

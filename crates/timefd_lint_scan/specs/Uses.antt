@@ -87,7 +87,7 @@ AreNotBefore us index end =
 
 -- For each use from an index on, no use after it up to the index that is kept for it is before it in the source.
 pub record AreRuns (us : List Use) (from : ℕ) (runs : List ℕ) : Type 0 where
-  pub runs_at : (i : ℕ) → from ≤ i → i < length runs → AreNotBefore us i (get_or runs i 0)
+  pub runs_at : (i : ℕ) → from ≤ i → AreNotBefore us i (get_or runs i 0)
 
 -- The uses at the front of the list, so many of them, are before a position.
 abbrev pub AreBefore : ℕ → ℕ → List Use → Type 0

@@ -47,6 +47,13 @@ pub struct AliasNotes {
     pub lasts: HashMap<u64, LastAlias>,
 }
 
+/// What is kept for a fingerprint.
+pub fn last_at(lasts: &HashMap<u64, LastAlias>, number: u64) -> Option<LastAlias>
+    ensures { result ≡ get nat_eq lasts.now number }
+{
+    lasts.get(&number).copied()
+}
+
 fn ended_of(last: Option<LastAlias>) -> usize
     ensures { result ≡ spec.ended_of last }
 {
@@ -121,7 +128,7 @@ fn note_next(
 {
     let alias = list[index];
     let number = fingerprint(text_of(source, alias.name));
-    let last = lasts.get(&number).copied();
+    let last = last_at(lasts, number);
     let note = note_of(notes, number, last);
     let ended = note.ended.max(alias.until);
     lasts.insert(number, LastAlias { index, ended })?;

@@ -8,7 +8,7 @@ ghost use Rattle.timefd_lint_scan.specs.KeptAliases.{AreAliases};
 ghost use Rattle.timefd_lint_scan.specs.Layouts as layouts;
 
 use crate::alias::{Alias, first_named};
-use crate::alias_notes::{AliasNote, AliasNotes, LastAlias};
+use crate::alias_notes::{AliasNote, AliasNotes, LastAlias, last_at};
 use crate::fingerprint::fingerprint;
 use crate::piece::PlacedToken;
 use crate::word::text_of;
@@ -26,7 +26,7 @@ pub struct Aliases<'a> {
 fn last_of(notes: &AliasNotes, name: &[u8]) -> Option<LastAlias>
     ensures { result ≡ get nat_eq notes.now.lasts (layouts.fingerprint name.now) }
 {
-    notes.lasts.get(&fingerprint(name)).copied()
+    last_at(&notes.lasts, fingerprint(name))
 }
 
 // Whether all others before an alias have ended at a position.

@@ -1,10 +1,20 @@
 //! How far the uses after one in a list aren't before it in the source, so that they are passed over together.
 
-ghost use Rattle.std.specs.Prelude.{◌≡◌, ◌+◌, ◌<◌, IfOk, length};
+ghost use Rattle.std.specs.Prelude.{◌≡◌, ◌+◌, ◌<◌, IfOk, get_or, length};
 ghost use Rattle.timefd_lint_scan.specs.Uses.{AreNotBefore, AreRuns};
 
 use crate::uses::Use;
 use std::alloc::{AllocError, Global};
+
+/// What is kept for a use; 0 if nothing is.
+pub fn end_at(runs: &[usize], index: usize) -> usize
+    ensures { result ≡ get_or runs.now index 0 }
+{
+    match runs.get(index) {
+        Some(end) => *end,
+        None => 0,
+    }
+}
 
 // An index in the list up to which no use after one is before it, by those of the uses after it.
 #[tactic(auto, using(crate::proofs::RunsLemmas::next_only))]
@@ -16,8 +26,7 @@ fn run_after(uses: &[Use], runs: &[usize], index: usize) -> usize
     let start = uses[index].name.start;
     let mut next = index + 1;
     'uses: while next < uses.len() && start <= uses[next].name.start {
-        let end = runs.get(next).copied().unwrap_or(0);
-        next = end.max(next + 1);
+        next = end_at(runs, next).max(next + 1);
     }
     next
 }

@@ -17,6 +17,7 @@ use crate::layout::{
     TokenLayout, has_one_item, has_one_variable, is_open_after, is_open_at, is_outside_at,
 };
 use crate::piece::PlacedToken;
+use crate::runs::end_at;
 use crate::scope::reaches;
 use crate::seen::is_seen;
 use crate::shadow::is_named;
@@ -233,9 +234,9 @@ fn is_past(source: &[u8], pieces: &[PlacedToken], declared: usize, used: Use) ->
     ensures { result ≡ true → IsPast source.now pieces.now declared used.name.start }
 {
     let is_function = is(text_before(source, pieces, declared, 1), "fn");
-    text_of(source, used.name) == text_at(source, pieces, declared)
+    declares_variable(source, pieces, declared)
+        && text_of(source, used.name) == text_at(source, pieces, declared)
         && is_alike(used.way, is_function)
-        && declares_variable(source, pieces, declared)
         && first_seen(source, pieces, declared) <= used.name.start
 }
 
@@ -262,8 +263,7 @@ fn next_use(
     ensures unused { AreUnused source.now pieces.now declared result uses.entry.list.now }
 {
     if is_past(source, pieces, declared, uses.list[index]) {
-        let end = uses.runs.get(index).copied().unwrap_or(0);
-        return end.max(index + 1);
+        return end_at(uses.runs, index).max(index + 1);
     }
     index + 1
 }
