@@ -8,6 +8,7 @@ use Rattle.std.proofs.lemmas.Option.{unwrap_or-slice_get}
 use Rattle.std.specs.List.{slice_get}
 use Rattle.std.specs.Option.{unwrap_or}
 use Rattle.timefd_lint_scan.specs.declared.piece.PlacedToken.{PlacedToken}
+use Rattle.timefd_lint_scan.specs.Aliases.{block_end}
 use Rattle.timefd_lint_scan.specs.Bytes.{Text}
 use Rattle.timefd_lint_scan.specs.Layouts.{AreEnds, but_first, closings, closings_before}
 use Rattle.timefd_lint_scan.specs.Scopes.{stays_open}
@@ -59,6 +60,31 @@ stays source position other depth (p ∷ ps) within = elim (cases_Bool (nat_le p
   ]
 ]
 
+closed_at : (source : Text) (depth : ℕ) (p : PlacedToken) (ps : List PlacedToken)
+    → is_opening (text_of source p) ≡ false → is_closing (text_of source p) ≡ true
+    → ((d : ℕ) → block_end source d ps ≡ get_or (closings source ps) d (length source))
+    → block_end source depth (p ∷ ps) ≡ get_or (p.start ∷ closings source ps) depth (length source)
+closed_at source zero p ps not closes further = rw (not, closes) refl
+closed_at source (suc depth) p ps not closes further =
+    let positive : (suc depth == 0) ≡ false = grind (arith, nat_tests) in
+    let less : suc depth - 1 ≡ depth = omega arith in
+    rw (not, closes, positive, less) (further depth)
+
+-- A block ends at the bracket that closes it.
+pub ends_at : (source : Text) (depth : ℕ) (ps : List PlacedToken)
+    → block_end source depth ps ≡ get_or (closings source ps) depth (length source)
+ends_at source depth [] = refl
+ends_at source depth (p ∷ ps) = elim (cases_Bool (is_opening (text_of source p))) [
+  | inl opens ↦ rw opens (ends_at source (depth + 1) ps ∙ sym (further_on (closings source ps) depth (length source)))
+  | inr not ↦ elim (cases_Bool (is_closing (text_of source p))) [
+    | inl closes ↦
+        let here : closings source (p ∷ ps) ≡ p.start ∷ closings source ps = rw (not, closes) refl in
+        closed_at source depth p ps not closes (λ d. ends_at source d ps)
+        ∙ ap (λ ns. get_or ns depth (length source)) (sym here)
+    | inr neither ↦ rw (not, neither) (ends_at source depth ps)
+  ]
+]
+
 pub last_is : (ns st : List ℕ) (other : ℕ) → ns ≡ reverse st → unwrap_or (slice_get ns (length ns - 1)) other ≡ get_or st 0 other
 last_is ns [] other same = subst (λ l. unwrap_or (slice_get l (length l - 1)) other ≡ other) (sym same) refl
 last_is ns (n ∷ st) other same =
@@ -77,11 +103,22 @@ one_back source ps n left p other before now next below at was passed =
     drop_more ps n other below ∙ (ap (λ x. x ∷ drop (n + 1) ps) (sym at) ∙ ap (λ k. p ∷ drop k ps) next) in
     passed (closings source (drop left ps)) was ∙ ap (λ l. reverse (closings source l)) (sym split)
 
-pub end_more : (source : Text) (ps : List PlacedToken) (n left value other : ℕ) (stack ends : List ℕ) → n + 1 ≡ left
+pub end_more : (source : Text) (ps : List PlacedToken) (n left value : ℕ) (stack ends : List ℕ) → n + 1 ≡ left
     → n < length ends → stack ≡ reverse (closings source (drop n ps))
-    → ((st : List ℕ) → stack ≡ reverse st → value ≡ get_or st 0 other) → AreEnds source ps left ends
+    → ((st : List ℕ) → stack ≡ reverse st → value ≡ get_or st 0 (length source)) → AreEnds source ps left ends
     → AreEnds source ps n (set ends n value)
-end_more source ps n left value other stack ends next below closed last are = record {
+end_more source ps n left value stack ends next below closed last are = record {
+  block_ends = λ i from inside. elim (cases_Bool (nat_lt n i)) [
+    | inl later ↦
+        let after : left ≤ i = grind (arith, nat_tests, later, next) in
+        let apart : i ≢ n = λ same. omega (arith, same, after, next) in
+        get_or-set_other ends n i value 0 apart ∙ are.block_ends i after (omega (arith, inside, length-set ends n value))
+    | inr not ↦
+        let same : i ≡ n = grind (arith, nat_tests, not, from) in
+        ap (λ k. get_or (set ends n value) k 0) same
+        ∙ (get_or-set_same ends n value 0 below ∙ (last (closings source (drop n ps)) closed
+        ∙ (sym (ends_at source 0 (drop n ps)) ∙ ap (λ k. block_end source 0 (drop k ps)) (sym same))))
+  ];
   open_up_to = λ i position from inside within. elim (cases_Bool (nat_lt n i)) [
     | inl later ↦
         let after : left ≤ i = grind (arith, nat_tests, later, next) in
@@ -90,16 +127,17 @@ end_more source ps n left value other stack ends next below closed last are = re
         (subst (λ k. position ≤ k) (get_or-set_other ends n i value 0 apart) within)
     | inr not ↦
         let same : i ≡ n = grind (arith, nat_tests, not, from) in
-        let is : get_or (set ends n value) i 0 ≡ get_or (closings source (drop n ps)) 0 other =
+        let is : get_or (set ends n value) i 0 ≡ get_or (closings source (drop n ps)) 0 (length source) =
         ap (λ k. get_or (set ends n value) k 0) same
         ∙ (get_or-set_same ends n value 0 below ∙ last (closings source (drop n ps)) closed) in
         subst (λ k. stays_open source position 0 (drop k ps) ≡ true) (sym same)
-        (stays source position other 0 (drop n ps) (subst (λ k. position ≤ k) is within))
+        (stays source position (length source) 0 (drop n ps) (subst (λ k. position ≤ k) is within))
   ];
 }
 
 pub no_ends : (source : Text) (ps : List PlacedToken) (from : ℕ) (ends : List ℕ) → length ends ≤ from → AreEnds source ps from ends
 no_ends source ps from ends none = record {
+  block_ends = λ i at inside. absurd (omega (arith, none, at, inside));
   open_up_to = λ i position at inside within. absurd (omega (arith, none, at, inside));
 }
 

@@ -11,12 +11,12 @@ use Rattle.timefd_lint_scan.specs.declared.uses.Use.{Use}
 use Rattle.timefd_lint_scan.specs.Bytes.{Text}
 use Rattle.timefd_lint_scan.specs.FoundUses.{AreFirsts}
 use Rattle.timefd_lint_scan.specs.Layouts.{fingerprint}
-use Rattle.timefd_lint_scan.specs.Uses.{AreBefore, first_seen, is_use_of, known_by_name}
+use Rattle.timefd_lint_scan.specs.Uses.{AreBefore, AreUnused, first_seen, is_use_of, known_by_name}
 use Rattle.timefd_lint_scan.specs.Words.{text_at, text_of}
 use Rattle.timefd_lint_scan.proofs.UsesLemmas.{unused}
 
 -- Uses of other names are passed over.
-passed_over : (source : Text) (ps : List PlacedToken) (declared n : ℕ) (us : List Use)
+pub passed_over : (source : Text) (ps : List PlacedToken) (declared n : ℕ) (us : List Use)
     → ((i : ℕ) → (d : Use) → i < n → i < length us → is_use_of source ps declared (get_or us i d) ≡ false)
     → known_by_name source ps declared (drop n us) ≡ known_by_name source ps declared us
 passed_over source ps declared zero us none = refl
@@ -51,28 +51,26 @@ absent source ps declared us kept none are =
     sym (passed_over source ps declared (length us) us never)
     ∙ ap (known_by_name source ps declared) (drop_all (length us) us (omega arith))
 
--- The uses before are passed over.
+-- The uses before aren't of the name.
 pub skipped : (source : Text) (ps : List PlacedToken) (declared before first : ℕ) (us : List Use) (kept : ℕ → Option ℕ)
     → AreBefore (first_seen source ps declared) before us
     → kept (fingerprint (text_at source ps declared)) ≡ Some first → AreFirsts source us 0 kept
-    → known_by_name source ps declared (drop (max before first) us) ≡ known_by_name source ps declared us
-skipped source ps declared before first us kept early found are =
-    passed_over source ps declared (max before first) us
-    (λ i d below within. elim (cases_Bool (nat_lt i before)) [
-      | inl soon ↦
-          let less : i < before = grind (arith, nat_tests, soon) in
-          unused source ps declared (get_or us i d) (early i d less within)
-      | inr late ↦ elim (named source ps declared (get_or us i d)) [
-        | inl not ↦ not
-        | inr same ↦
-            let (j, kept_there, from) = are.kept_for i d (omega arith) within in
-            let here : kept (fingerprint (text_at source ps declared)) ≡ Some j =
-            ap (λ t. kept (fingerprint t)) (sym same) ∙ kept_there in
-            let one : first ≡ j = cc (found, here) in
-            let after : before ≤ i = grind (arith, nat_tests, late) in
-            absurd (omega (arith, below, from, one, after))
-      ]
-    ])
+    → AreUnused source ps declared (max before first) us
+skipped source ps declared before first us kept early found are = λ i d below within. elim (cases_Bool (nat_lt i before)) [
+  | inl soon ↦
+      let less : i < before = grind (arith, nat_tests, soon) in
+      unused source ps declared (get_or us i d) (early i d less within)
+  | inr late ↦ elim (named source ps declared (get_or us i d)) [
+    | inl not ↦ not
+    | inr same ↦
+        let (j, kept_there, from) = are.kept_for i d (omega arith) within in
+        let here : kept (fingerprint (text_at source ps declared)) ≡ Some j =
+        ap (λ t. kept (fingerprint t)) (sym same) ∙ kept_there in
+        let one : first ≡ j = cc (found, here) in
+        let after : before ≤ i = grind (arith, nat_tests, late) in
+        absurd (omega (arith, below, from, one, after))
+  ]
+]
 
 pub none_kept : (source : Text) (us : List Use) (from : ℕ) (kept : ℕ → Option ℕ) → length us ≤ from
     → AreFirsts source us from kept

@@ -1,7 +1,8 @@
 -- What is noted about the tokens of a source.
-use Rattle.std.proofs.Common.{ℕ, ◌≡◌, ◌∙◌, ◌+◌, ◌-◌, ◌<◌, ◌≤◌, ◌&&◌, ◌||◌, Bool, false, true, List, [], ◌∷◌, ap, arith, drop, inl, inr, length, nat_le, refl, subst, suc, suc-add, sym, zero, zero-add}
+use Rattle.std.proofs.Common.{ℕ, ◌≡◌, ◌∙◌, ◌+◌, ◌-◌, ◌<◌, ◌≤◌, ◌&&◌, ◌||◌, Bool, false, true, List, [], ◌∷◌, ap, arith, drop, get_or, inl, inr, length, nat_le, refl, subst, suc, suc-add, sym, zero, zero-add}
 use Rattle.std.proofs.lemmas.Bool.{and_parts, cases_Bool, or_from, or_left, or_right}
 use Rattle.std.proofs.lemmas.Bool.Decides.{nat_tests}
+use Rattle.std.proofs.lemmas.Option.{slice_get-get_or}
 use Rattle.std.proofs.lemmas.Slice.Eq.{bytes_eq-Decides}
 use Rattle.std.specs.Prelude.{bytes_eq, codes}
 use Rattle.timefd_lint_scan.specs.declared.piece.PlacedToken.{PlacedToken}
@@ -173,3 +174,6 @@ rest_after [] zero = refl
 rest_after [] (suc d) = rw (suc-add) refl
 rest_after (p ∷ ps) zero = refl
 rest_after (p ∷ ps) (suc d) = rw (suc-add) (rest_after ps d)
+
+pub same_at : (ns : List ℕ) (n d other : ℕ) → n < length ns → get_or ns n d ≡ get_or ns n other
+same_at ns n d other below = cc (slice_get-get_or ns n d below, slice_get-get_or ns n other below)

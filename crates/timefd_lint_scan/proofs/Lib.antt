@@ -9,8 +9,13 @@ pub mod UsingLemmas
 pub mod UsesLemmas
 pub mod RepeatedLemmas
 pub mod BlockLemmas
+pub mod ImportLemmas
+pub mod AliasNoteLemmas
+pub mod AliasesLemmas
+pub mod SeenLemmas
 pub mod BeginLemmas
 pub mod FirstsLemmas
+pub mod RunsLemmas
 pub mod LayoutLemmas
 pub mod TakenLemmas
 pub mod LookLemmas

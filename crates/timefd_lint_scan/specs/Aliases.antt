@@ -1,5 +1,5 @@
 -- The names that a source gives to items of libraries: `use time::format_description as fd`.
-use Rattle.std.specs.Prelude.{ℕ, ◌+◌, ◌-◌, Bool, ◌&&◌, ◌||◌, ◌==◌, nat_le, nat_lt, if◌then◌else◌, List, [], ◌∷◌, ◌++◌, codes, bytes_eq, length, Option, Some, None}
+use Rattle.std.specs.Prelude.{ℕ, ⊤, ◌≡◌, ◌+◌, ◌-◌, Bool, ◌&&◌, ◌||◌, ◌==◌, nat_le, nat_lt, if◌then◌else◌, List, [], ◌∷◌, ◌++◌, codes, bytes_eq, length, Option, Some, None}
 use Rattle.std.specs.Option.{option_or, option_to_list}
 use Rattle.timefd_lint_scan.specs.declared.alias.Alias.{Alias}
 use Rattle.timefd_lint_scan.specs.declared.piece.PlacedToken.{PlacedToken}
@@ -33,12 +33,21 @@ ends_import text =
     bytes_eq text (codes ";") || bytes_eq text (codes ",") || bytes_eq text (codes "}")
     || bytes_eq text (codes "as")
 
+-- where the block ends that the statement is in that these tokens begin in
+abbrev pub statement_end : Text → List PlacedToken → ℕ
+statement_end source ps = block_end source 0 (after_first source (codes ";") ps)
+
+-- Where the block ends that the statement of these tokens is in, if that is known.
+abbrev pub IsUntil : Text → List PlacedToken → Option ℕ → Type 0
+IsUntil source ps None = ⊤
+IsUntil source ps (Some until) = until ≡ statement_end source ps
+
 -- An alias is valid up to the end of the block that its statement is in.
 abbrev pub alias_of : Text → PlacedToken → PlacedToken → List PlacedToken → Alias
 alias_of source name original after = record {
   name = name;
   original = original;
-  until = block_end source 0 (after_first source (codes ";") after);
+  until = statement_end source after;
 }
 
 -- `original as name`

@@ -7,7 +7,7 @@ use Rattle.timefd_lint_scan.specs.declared.uses.Uses.{Uses}
 use Rattle.timefd_lint_scan.specs.Bytes.{Text}
 use Rattle.timefd_lint_scan.specs.Kept.{IsLayout}
 use Rattle.timefd_lint_scan.specs.Layouts.{fingerprint}
-use Rattle.timefd_lint_scan.specs.Uses.{AreFurthest}
+use Rattle.timefd_lint_scan.specs.Uses.{AreFurthest, AreRuns}
 use Rattle.timefd_lint_scan.specs.Words.{text_of}
 
 -- For the name of each use from an index on, one is kept that isn't after it.
@@ -18,5 +18,6 @@ pub record AreFirsts (source : Text) (us : List Use) (from : ℕ) (kept : ℕ �
 -- What is kept of uses and of the tokens of their source is so.
 pub record IsFound (source : Text) (ps : List PlacedToken) (uses : Uses) : Type 0 where
   pub furthest : AreFurthest uses.list.now uses.furthest.now
+  pub runs : AreRuns uses.list.now 0 uses.runs.now
   pub firsts : AreFirsts source uses.list.now 0 (get nat_eq uses.firsts.now)
   pub layout : IsLayout source ps uses.layout.now

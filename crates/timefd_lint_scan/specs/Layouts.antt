@@ -3,6 +3,7 @@ use Rattle.std.specs.Prelude.{ℕ, ◌≡◌, ◌+◌, ◌*◌, ◌%◌, ◌^◌
 use Rattle.timefd_lint_scan.specs.declared.piece.PlacedToken.{PlacedToken}
 use Rattle.timefd_lint_scan.specs.declared.repeated.Declaring.{Declaring}
 use Rattle.timefd_lint_scan.specs.declared.repeated.Declaring.TheVariants.{Surely, Maybe}
+use Rattle.timefd_lint_scan.specs.Aliases.{block_end}
 use Rattle.timefd_lint_scan.specs.Bytes.{Text}
 use Rattle.timefd_lint_scan.specs.Declarations.{has_type, is_assigned, is_declaring, is_in_pattern, most_tokens}
 use Rattle.timefd_lint_scan.specs.Scopes.{is_outside, stays_open}
@@ -59,8 +60,9 @@ abbrev pub closings : Text → List PlacedToken → List ℕ
 closings source [] = []
 closings source (p ∷ ps) = closings_before source p (closings source ps)
 
--- Up to the position that is kept for a token, the block that it is in isn't closed.
+-- The position that is kept for a token is where the block ends that it is in, and up to there it isn't closed.
 pub record AreEnds (source : Text) (ps : List PlacedToken) (from : ℕ) (ends : List ℕ) : Type 0 where
+  pub block_ends : (i : ℕ) → from ≤ i → i < length ends → get_or ends i 0 ≡ block_end source 0 (drop i ps)
   pub open_up_to : (i position : ℕ) → from ≤ i → i < length ends → position ≤ get_or ends i 0
       → stays_open source position 0 (drop i ps) ≡ true
 

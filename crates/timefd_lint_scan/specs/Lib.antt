@@ -17,6 +17,8 @@ pub mod Arguments
 pub mod Dates
 pub mod Attributes
 pub mod Layouts
+pub mod AliasNotes
+pub mod KeptAliases
 pub mod Uses
 pub mod Kept
 pub mod FoundUses

@@ -1,5 +1,5 @@
 -- Names that are used instead of descriptions, and what their use says about the text that they denote.
-use Rattle.std.specs.Prelude.{ℕ, ◌≤◌, ◌<◌, Bool, false, not, ◌&&◌, nat_le, if◌then◌else◌, List, [], ◌∷◌, codes, bytes_eq, get_or, length, Option, Some, None}
+use Rattle.std.specs.Prelude.{ℕ, ◌≡◌, ◌≤◌, ◌<◌, Bool, false, not, ◌&&◌, ◌||◌, nat_le, if◌then◌else◌, List, [], ◌∷◌, codes, bytes_eq, get_or, length, Option, Some, None}
 use Rattle.timefd_lint_scan.specs.declared.piece.PlacedToken.{PlacedToken}
 use Rattle.timefd_lint_scan.specs.declared.known.Known.{Known}
 use Rattle.timefd_lint_scan.specs.declared.uses.Use.{Use}
@@ -10,6 +10,12 @@ use Rattle.timefd_lint_scan.specs.Bytes.{Text}
 use Rattle.timefd_lint_scan.specs.Declarations.{is_declared_before, is_named}
 use Rattle.timefd_lint_scan.specs.Scopes.{reaches, stays_open}
 use Rattle.timefd_lint_scan.specs.Words.{position_at, text_at, text_before, text_of, tokens_after}
+
+-- A block isn't closed before a position, and a name isn't declared again before it. At the first of these tokens, `depth` blocks inside
+-- of it are open, and the word `before` precedes them.
+abbrev pub stays_seen : Text → Text → ℕ → ℕ → Text → List PlacedToken → Bool
+stays_seen source name position depth before ps =
+    stays_open source position depth ps && not (is_declared_before source name position before ps)
 
 -- A position is after the first of these tokens, in the block that they begin in, and the name isn't declared
 -- again before it.
@@ -60,6 +66,29 @@ first_seen source ps declared =
     else if bytes_eq (text_before source ps declared 1) (codes "for") then
     first_start (after_first source (codes "{") (tokens_after ps declared))
     else 0
+
+-- A token declares a name with `let` or `for`.
+abbrev pub declares_variable : Text → List PlacedToken → ℕ → Bool
+declares_variable source ps declared =
+    bytes_eq (text_before source ps declared 1) (codes "let") || bytes_eq (text_before source ps declared 1) (codes "for")
+
+-- A name at a position or after it isn't the one that a token declares.
+abbrev pub IsPast : Text → List PlacedToken → ℕ → ℕ → Type 0
+IsPast source ps declared from = (position : ℕ) → from ≤ position → is_meant source ps declared position ≡ false
+
+-- The uses at the front of the list, so many of them, aren't of the name that a token declares.
+abbrev pub AreUnused : Text → List PlacedToken → ℕ → ℕ → List Use → Type 0
+AreUnused source ps declared count us =
+    (i : ℕ) → (d : Use) → i < count → i < length us → is_use_of source ps declared (get_or us i d) ≡ false
+
+-- No use after one in the list, up to an index, is before it in the source.
+abbrev pub AreNotBefore : List Use → ℕ → ℕ → Type 0
+AreNotBefore us index end =
+    (k : ℕ) → (d : Use) → index < k → k < end → k < length us → (get_or us index d).name.start ≤ (get_or us k d).name.start
+
+-- For each use from an index on, no use after it up to the index that is kept for it is before it in the source.
+pub record AreRuns (us : List Use) (from : ℕ) (runs : List ℕ) : Type 0 where
+  pub runs_at : (i : ℕ) → from ≤ i → AreNotBefore us i (get_or runs i 0)
 
 -- The uses at the front of the list, so many of them, are before a position.
 abbrev pub AreBefore : ℕ → ℕ → List Use → Type 0

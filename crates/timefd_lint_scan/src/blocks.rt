@@ -64,7 +64,7 @@ pub fn ends_of(
     'tokens: while left > 0 {
         left -= 1;
         pass_back(&mut closings, source, pieces[left])?;
-        ends[left] = last_or(&closings, usize::MAX);
+        ends[left] = last_or(&closings, source.len());
     }
     Ok(ends)
 }

@@ -2,8 +2,9 @@
 
 ghost use Rattle.std.specs.Prelude.{◌≡◌};
 ghost use Rattle.timefd_lint_scan.specs.Calls as spec;
+ghost use Rattle.timefd_lint_scan.specs.KeptAliases.{AreAliases};
 
-use crate::alias::{Alias, original_of, real_name};
+use crate::aliases::{Aliases, original_of, real_name};
 use crate::dialect::{FormatLanguage, is, version_named};
 use crate::known::Known;
 use crate::piece::PlacedToken;
@@ -52,8 +53,9 @@ pub struct OpenBracket {
 }
 
 /// The call whose arguments are in the bracket that this token opens, with these aliases declared.
-pub fn call_of(source: &[u8], pieces: &[PlacedToken], aliases: &[Alias], opening: usize) -> Call
-    ensures { result ≡ spec.call_of source.now pieces.now aliases.now opening }
+pub fn call_of(source: &[u8], pieces: &[PlacedToken], aliases: Aliases<'_>, opening: usize) -> Call
+    requires { AreAliases source.now aliases }
+    ensures { result ≡ spec.call_of source.now pieces.now aliases.entry.list.now opening }
 {
     let position = position_at(pieces, opening);
     let name = text_before(source, pieces, opening, 1);
@@ -73,8 +75,9 @@ pub fn call_of(source: &[u8], pieces: &[PlacedToken], aliases: &[Alias], opening
 }
 
 /// A call by a bare name, which may be imported.
-fn bare_call(source: &[u8], aliases: &[Alias], name: &[u8], position: usize) -> Call
-    ensures { result ≡ spec.bare_call source.now name.now position aliases.now }
+fn bare_call(source: &[u8], aliases: Aliases<'_>, name: &[u8], position: usize) -> Call
+    requires { AreAliases source.now aliases }
+    ensures { result ≡ spec.bare_call source.now name.now position aliases.entry.list.now }
 {
     match original_of(source, aliases, name, position) {
         Some(original) => call_imported(text_of(source, original)),
@@ -253,10 +256,11 @@ fn parser_by(name: &[u8], dialect: Option<FormatLanguage>) -> Call
 fn call_with_version(
     source: &[u8],
     pieces: &[PlacedToken],
-    aliases: &[Alias],
+    aliases: Aliases<'_>,
     opening: usize,
 ) -> Call
-    ensures { result ≡ spec.call_with_version source.now pieces.now aliases.now opening }
+    requires { AreAliases source.now aliases }
+    ensures { result ≡ spec.call_with_version source.now pieces.now aliases.entry.list.now opening }
 {
     let name = text_before(source, pieces, opening, 6);
     let name = real_name(source, aliases, name, position_at(pieces, opening));

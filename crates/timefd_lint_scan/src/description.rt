@@ -6,8 +6,9 @@ ghost use Rattle.timefd_lint_scan.specs.Candidates.{candidates_by};
 ghost use Rattle.timefd_lint_scan.specs.Escapes.{placed};
 ghost use Rattle.timefd_lint_scan.specs.Found.{AreDescribed, IsAnyDescribed, IsDescribed, IsOfText, begun_after, end_after};
 ghost use Rattle.timefd_lint_scan.specs.FoundUses.{IsFound};
+ghost use Rattle.timefd_lint_scan.specs.KeptAliases.{AreAliases};
 
-use crate::alias::Alias;
+use crate::aliases::Aliases;
 use crate::between::is_between;
 use crate::candidate::{CandidateLiteral, candidate_at};
 use crate::dates::is_of_dates;
@@ -128,13 +129,14 @@ pub fn described_by(
     alloc: Global,
     source: &str,
     pieces: &[PlacedToken],
-    aliases: &[Alias],
+    aliases: Aliases<'_>,
     uses: Uses<'_>,
     marks: &[LanguageMark],
 ) -> Result<Vec<SourceDescription>, AllocError>
-    requires { IsFound source.now pieces.now uses }
+    requires found { IsFound source.now pieces.now uses }
+    requires aliases { AreAliases source.now aliases }
     ensures { IfOk result (λ found. AreDescribed source.now 0
-        (candidates_by source.now pieces.now aliases.now uses.entry.list.now marks.now) found.items) }
+        (candidates_by source.now pieces.now aliases.entry.list.now uses.entry.list.now marks.now) found.items) }
 {
     let mut frames = Vec::new(alloc);
     frames.push(outermost())?;

@@ -3,8 +3,9 @@
 ghost use Rattle.std.specs.Prelude.{◌≡◌, None};
 ghost use Rattle.timefd_lint_scan.specs.Flows as spec;
 ghost use Rattle.timefd_lint_scan.specs.FoundUses.{IsFound};
+ghost use Rattle.timefd_lint_scan.specs.KeptAliases.{AreAliases};
 
-use crate::alias::Alias;
+use crate::aliases::Aliases;
 use crate::calls::{Argument, Call, OpenBracket, call_of};
 use crate::dialect::is;
 use crate::known::{Known, known_by_call};
@@ -260,11 +261,12 @@ fn passed_into(
 pub fn opened(
     source: &[u8],
     pieces: &[PlacedToken],
-    aliases: &[Alias],
+    aliases: Aliases<'_>,
     index: usize,
     outer: Option<OpenBracket>,
 ) -> OpenBracket
-    ensures { result ≡ spec.opened source.now pieces.now aliases.now index outer }
+    requires { AreAliases source.now aliases }
+    ensures { result ≡ spec.opened source.now pieces.now aliases.entry.list.now index outer }
 {
     let call = call_of(source, pieces, aliases, index);
     let passes = passed_into(source, pieces, index, call, outer);

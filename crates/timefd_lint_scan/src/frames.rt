@@ -3,8 +3,9 @@
 ghost use Rattle.std.specs.Prelude.{◌≡◌, OnOk};
 ghost use Rattle.timefd_lint_scan.specs.Frames as spec;
 ghost use Rattle.timefd_lint_scan.specs.FoundUses.{IsFound};
+ghost use Rattle.timefd_lint_scan.specs.KeptAliases.{AreAliases};
 
-use crate::alias::Alias;
+use crate::aliases::Aliases;
 use crate::calls::{Argument, OpenBracket};
 use crate::dialect::is;
 use crate::flow::{entered, opened, settled};
@@ -106,13 +107,14 @@ pub fn pass(
     frames: &mut Vec<OpenBracket>,
     source: &[u8],
     pieces: &[PlacedToken],
-    aliases: &[Alias],
+    aliases: Aliases<'_>,
     uses: Uses<'_>,
     index: usize,
 ) -> Result<(), AllocError>
-    requires { IsFound source.now pieces.now uses }
+    requires found { IsFound source.now pieces.now uses }
+    requires aliases { AreAliases source.now aliases }
     ensures { OnOk result (frames.new.items
-        ≡ spec.passed source.now pieces.now aliases.now uses.entry.list.now index frames.old.items) }
+        ≡ spec.passed source.now pieces.now aliases.entry.list.now uses.entry.list.now index frames.old.items) }
 {
     let text = text_at(source, pieces, index);
     if is_opening(text) {

@@ -2,6 +2,7 @@
 
 ghost use Rattle.std.specs.HashSet.{contains};
 ghost use Rattle.std.specs.Prelude.{◌≡◌, ◌+◌, IfOk, drop, false, nat_eq, true, ℕ};
+ghost use Rattle.timefd_lint_scan.specs.Aliases.{block_end};
 ghost use Rattle.timefd_lint_scan.specs.Declarations.{is_declared_before};
 ghost use Rattle.timefd_lint_scan.specs.Kept.{IsLayout};
 ghost use Rattle.timefd_lint_scan.specs.Layouts.{fingerprint};
@@ -9,11 +10,12 @@ ghost use Rattle.timefd_lint_scan.specs.Scopes.{is_outside, stays_open};
 ghost use Rattle.timefd_lint_scan.specs.Uses.{is_only};
 ghost use Rattle.timefd_lint_scan.specs.Words.{position_at, text_at, tokens_after};
 
+use crate::alias::block_end;
 use crate::blocks::{begins_of, ends_of};
 use crate::fingerprint::fingerprint;
 use crate::piece::PlacedToken;
 use crate::repeated::{Declaring, declares_at, repeated_names};
-use crate::word::text_at;
+use crate::word::{text_at, tokens_after};
 use std::alloc::{AllocError, Global};
 use std::collections::HashSet;
 
@@ -117,6 +119,17 @@ pub fn is_open_after(
     ensures { result ≡ true → stays_open source.now position 0 (drop (index + 1) pieces.now) ≡ true }
 {
     index < layout.ends.len() && is_open_at(source, pieces, layout, index + 1, position)
+}
+
+/// Where the block ends that the token after this one begins in.
+pub fn end_after(source: &[u8], pieces: &[PlacedToken], layout: &TokenLayout, index: usize) -> usize
+    requires { IsLayout source.now pieces.now layout.now }
+    ensures { result ≡ block_end source.now 0 (tokens_after pieces.now index) }
+{
+    if index < layout.ends.len() && index + 1 < layout.ends.len() {
+        return layout.ends[index + 1];
+    }
+    block_end(source, tokens_after(pieces, index))
 }
 
 /// Whether all brackets that open after a position are closed again at a token; `false` if that isn't certain.

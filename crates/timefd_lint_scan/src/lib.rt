@@ -2,6 +2,8 @@
 #![tactic(auto)]
 
 mod alias;
+mod alias_notes;
+mod aliases;
 mod alike;
 mod attribute;
 pub mod between;
@@ -22,6 +24,7 @@ mod flow;
 mod frames;
 mod furthest;
 mod gathered;
+mod import;
 pub mod known;
 pub mod laws;
 mod layout;
@@ -35,7 +38,9 @@ pub mod part;
 mod piece;
 mod position;
 mod repeated;
+mod runs;
 mod scope;
+mod seen;
 mod shadow;
 mod string;
 mod token;

@@ -7,16 +7,19 @@ ghost use Rattle.timefd_lint_scan.specs.Found.{AllStandIn, AreDescribed, AreDesc
 ghost use Rattle.timefd_lint_scan.specs.Looks.{AreTaken, IsLook, IsSeen};
 ghost use Rattle.timefd_lint_scan.specs.Looks as spec;
 
-use crate::alias::aliases_of;
+use crate::alias_notes::notes_of;
+use crate::aliases::Aliases;
 use crate::description::{SourceDescription, described_by};
 use crate::dialect::is;
 use crate::firsts::firsts_of;
 use crate::furthest::furthest_of;
 use crate::gathered::{Gathered, tokens_of};
+use crate::import::aliases_of;
 use crate::layout::layout_of;
 use crate::marks::{LanguageMark, marks_of, unknown_marks};
 use crate::names::may_describe;
 use crate::piece::PlacedToken;
+use crate::runs::runs_of;
 use crate::uses::{Use, Uses};
 use crate::using::uses_of;
 use crate::word::text_of;
@@ -150,18 +153,25 @@ fn seen_in(
         ≡ spec.calls_in source.now pieces.now seen.descriptions.items) }
 {
     let bytes = source.as_bytes();
-    let aliases = aliases_of(alloc, bytes, pieces)?;
     let layout = layout_of(alloc, bytes, pieces)?;
-    let uses = uses_of(alloc, bytes, pieces, &aliases, &layout)?;
+    let list = aliases_of(alloc, bytes, pieces, &layout)?;
+    let notes = notes_of(alloc, bytes, &list)?;
+    let aliases = Aliases {
+        list: &list,
+        notes: &notes,
+    };
+    let uses = uses_of(alloc, bytes, pieces, aliases, &layout)?;
     let furthest = furthest_of(alloc, &uses)?;
+    let runs = runs_of(alloc, &uses)?;
     let firsts = firsts_of(alloc, bytes, &uses)?;
     let named = Uses {
         list: &uses,
         furthest: &furthest,
+        runs: &runs,
         firsts: &firsts,
         layout: &layout,
     };
-    let descriptions = described_by(alloc, source, pieces, &aliases, named, marks)?;
+    let descriptions = described_by(alloc, source, pieces, aliases, named, marks)?;
     let has_chrono = has_word(bytes, pieces, "chrono");
     let calls = unread_calls(alloc, &uses, &descriptions, has_chrono)?;
     Ok(SeenTokens {

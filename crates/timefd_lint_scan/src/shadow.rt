@@ -123,7 +123,7 @@ fn has_type(source: &[u8], after: &[PlacedToken]) -> bool
 
 /// Whether a name between `before` and `after` may be declared there, so that it is valid at a later
 /// position.
-fn is_declared(source: &[u8], before: &[u8], after: &[PlacedToken], position: usize) -> bool
+pub fn is_declared(source: &[u8], before: &[u8], after: &[PlacedToken], position: usize) -> bool
     ensures { result ≡ spec.is_declared source.now position before.now after.now }
 {
     if is(before, "let") || is_assigned(source, after) {
@@ -147,32 +147,6 @@ pub fn may_declare(source: &[u8], before: &[u8], after: &[PlacedToken]) -> bool
         || has_type(source, after)
         || is_in_pattern(source, after)
         || is_assigned(source, after)
-}
-
-/// Whether one of these tokens may declare a name before a position. The word `before` precedes the tokens.
-pub fn is_declared_before(
-    source: &[u8],
-    name: &[u8],
-    before: &[u8],
-    pieces: &[PlacedToken],
-    position: usize,
-) -> bool
-    ensures { result ≡ spec.is_declared_before source.now name.now position before.now pieces.now }
-{
-    let mut last = before;
-    let mut rest = pieces;
-    'tokens: while let [piece, after @ ..] = rest {
-        if position <= piece.start {
-            return false;
-        }
-        let text = text_of(source, *piece);
-        if text == name && is_declared(source, last, after, position) {
-            return true;
-        }
-        last = text;
-        rest = after;
-    }
-    false
 }
 
 /// Whether these tokens declare an item or a variable with this name before a position. The word `before`

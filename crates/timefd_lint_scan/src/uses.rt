@@ -1,11 +1,11 @@
 //! Names that are used instead of descriptions, and what their use says about the text that they denote.
 
-ghost use Rattle.std.specs.Prelude.{◌≡◌, drop, false, true};
+ghost use Rattle.std.specs.Prelude.{◌≡◌, ◌+◌, ◌<◌, false, length, true};
 ghost use Rattle.timefd_lint_scan.specs.Declarations.{is_declared_before};
 ghost use Rattle.timefd_lint_scan.specs.FoundUses.{IsFound};
 ghost use Rattle.timefd_lint_scan.specs.Kept.{IsLayout};
 ghost use Rattle.timefd_lint_scan.specs.Scopes.{reaches, stays_open};
-ghost use Rattle.timefd_lint_scan.specs.Uses.{AreBefore, AreFurthest};
+ghost use Rattle.timefd_lint_scan.specs.Uses.{AreBefore, AreFurthest, AreUnused, IsPast};
 ghost use Rattle.timefd_lint_scan.specs.Uses as spec;
 ghost use Rattle.timefd_lint_scan.specs.Words.{text_at, tokens_after};
 
@@ -17,8 +17,10 @@ use crate::layout::{
     TokenLayout, has_one_item, has_one_variable, is_open_after, is_open_at, is_outside_at,
 };
 use crate::piece::PlacedToken;
-use crate::scope::{reaches, stays_open};
-use crate::shadow::{is_declared_before, is_named};
+use crate::runs::end_at;
+use crate::scope::reaches;
+use crate::seen::is_seen;
+use crate::shadow::is_named;
 use crate::word::{position_at, text_at, text_before, text_of, tokens_after};
 use std::collections::HashMap;
 
@@ -43,21 +45,6 @@ pub struct Use {
     pub way: Way,
     /// What is known about the text that it denotes.
     pub known: Known,
-}
-
-/// Whether a position is after the first of these tokens, in the block that they begin in, and the name
-/// isn't declared again before it.
-fn is_seen(source: &[u8], name: &[u8], pieces: &[PlacedToken], position: usize) -> bool
-    ensures { result ≡ spec.is_seen source.now name.now pieces.now position }
-{
-    match pieces {
-        [first, ..] => {
-            first.start <= position
-                && stays_open(source, pieces, position)
-                && !is_declared_before(source, name, name, pieces, position)
-        }
-        [] => false,
-    }
 }
 
 /// Whether no other item or variable of a source has the name that this token declares.
@@ -135,6 +122,8 @@ pub struct Uses<'a> {
     pub list: &'a [Use],
     /// For each of them a byte index, after which no use up to it in the list is.
     pub furthest: &'a [usize],
+    /// For each of them an index in the list up to which none after it is before it.
+    pub runs: &'a [usize],
     /// For each name's fingerprint an index in the list before which no use is of that name.
     pub firsts: &'a HashMap<u64, usize>,
     /// What is noted about the tokens.
@@ -243,15 +232,49 @@ fn count_before(uses: Uses<'_>, at: usize) -> usize
     low
 }
 
-// The uses from an index on.
-fn uses_from(uses: &[Use], index: usize) -> &[Use]
-    ensures { result.now ≡ drop index uses.now }
+// Whether this use isn't of the name that a token declares, and none at its position or after it; `false` if that isn't certain.
+#[tactic(auto, using(crate::proofs::SeenLemmas::never_again))]
+fn is_past(source: &[u8], pieces: &[PlacedToken], declared: usize, used: Use) -> bool
+    requires { spec.is_use_of source.now pieces.now declared used ≡ false }
+    ensures { result ≡ true → IsPast source.now pieces.now declared used.name.start }
 {
-    uses.get(index..).unwrap_or(&[])
+    let is_function = is(text_before(source, pieces, declared, 1), "fn");
+    declares_variable(source, pieces, declared)
+        && text_of(source, used.name) == text_at(source, pieces, declared)
+        && is_alike(used.way, is_function)
+        && first_seen(source, pieces, declared) <= used.name.start
+}
+
+// Whether a token declares a name with `let` or `for`.
+fn declares_variable(source: &[u8], pieces: &[PlacedToken], declared: usize) -> bool
+    ensures { result ≡ spec.declares_variable source.now pieces.now declared }
+{
+    let before = text_before(source, pieces, declared, 1);
+    is(before, "let") || is(before, "for")
+}
+
+// The index of the next use in the list that may be of the name that a token declares, after one that isn't.
+fn next_use(
+    source: &[u8],
+    pieces: &[PlacedToken],
+    uses: Uses<'_>,
+    declared: usize,
+    index: usize,
+) -> usize
+    requires found { IsFound source.now pieces.now uses }
+    requires unused { AreUnused source.now pieces.now declared (index + 1) uses.list.now }
+    requires below { index < length uses.list.now }
+    ensures further { index < result }
+    ensures unused { AreUnused source.now pieces.now declared result uses.entry.list.now }
+{
+    if is_past(source, pieces, declared, uses.list[index]) {
+        return end_at(uses.runs, index).max(index + 1);
+    }
+    index + 1
 }
 
 /// What the first use says about the name that a token declares.
-#[tactic(auto, using(crate::proofs::FirstsLemmas::absent, crate::proofs::FirstsLemmas::skipped))]
+#[tactic(auto, using(crate::proofs::FirstsLemmas::absent, crate::proofs::FirstsLemmas::skipped, crate::proofs::RunsLemmas::one_unused, crate::proofs::RunsLemmas::found_at, crate::proofs::RunsLemmas::none_left))]
 pub fn known_by_name(
     source: &[u8],
     pieces: &[PlacedToken],
@@ -265,12 +288,13 @@ pub fn known_by_name(
         return None;
     };
     let before = count_before(uses, first_seen(source, pieces, declared));
-    let mut rest = uses_from(uses.list, before.max(first));
-    'uses: while let [first, after @ ..] = rest {
-        if is_use_of(source, pieces, uses.layout, declared, *first) {
-            return Some(first.known);
+    let mut index = before.max(first);
+    'uses: while index < uses.list.len() {
+        let used = uses.list[index];
+        if is_use_of(source, pieces, uses.layout, declared, used) {
+            return Some(used.known);
         }
-        rest = after;
+        index = next_use(source, pieces, uses, declared, index);
     }
     None
 }

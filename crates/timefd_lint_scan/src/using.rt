@@ -4,9 +4,10 @@ ghost use Rattle.std.specs.Prelude.{◌≡◌, ◌++◌, [], IfOk, OnOk};
 ghost use Rattle.std.specs.Option.{option_to_list};
 ghost use Rattle.timefd_lint_scan.specs.FoundUses.{IsFound};
 ghost use Rattle.timefd_lint_scan.specs.Kept.{IsLayout};
+ghost use Rattle.timefd_lint_scan.specs.KeptAliases.{AreAliases};
 ghost use Rattle.timefd_lint_scan.specs.Using as spec;
 
-use crate::alias::Alias;
+use crate::aliases::Aliases;
 use crate::calls::OpenBracket;
 use crate::dialect::is;
 use crate::firsts::firsts_of;
@@ -16,6 +17,7 @@ use crate::furthest::furthest_of;
 use crate::known::Known;
 use crate::layout::TokenLayout;
 use crate::piece::PlacedToken;
+use crate::runs::runs_of;
 use crate::used_part::is_part;
 use crate::uses::{Use, Uses, Way, known_by_name};
 use crate::value::{ends_value, is_begun};
@@ -137,6 +139,7 @@ fn no_uses<'a>(
     Uses {
         list: &[],
         furthest: &[],
+        runs: &[],
         firsts,
         layout,
     }
@@ -147,11 +150,12 @@ fn in_calls(
     alloc: Global,
     source: &[u8],
     pieces: &[PlacedToken],
-    aliases: &[Alias],
+    aliases: Aliases<'_>,
     layout: &TokenLayout,
 ) -> Result<Vec<Use>, AllocError>
-    requires { IsLayout source.now pieces.now layout.now }
-    ensures { IfOk result (λ uses. uses.items ≡ spec.in_calls source.now pieces.now aliases.now) }
+    requires layout { IsLayout source.now pieces.now layout.now }
+    requires aliases { AreAliases source.now aliases }
+    ensures { IfOk result (λ uses. uses.items ≡ spec.in_calls source.now pieces.now aliases.entry.list.now) }
 {
     let mut frames = Vec::new(alloc);
     frames.push(outermost())?;
@@ -255,18 +259,21 @@ pub fn uses_of(
     alloc: Global,
     source: &[u8],
     pieces: &[PlacedToken],
-    aliases: &[Alias],
+    aliases: Aliases<'_>,
     layout: &TokenLayout,
 ) -> Result<Vec<Use>, AllocError>
-    requires { IsLayout source.now pieces.now layout.now }
-    ensures { IfOk result (λ uses. uses.items ≡ spec.uses_in source.now pieces.now aliases.now) }
+    requires layout { IsLayout source.now pieces.now layout.now }
+    requires aliases { AreAliases source.now aliases }
+    ensures { IfOk result (λ uses. uses.items ≡ spec.uses_in source.now pieces.now aliases.entry.list.now) }
 {
     let mut uses = in_calls(alloc, source, pieces, aliases, layout)?;
     let furthest = furthest_of(alloc, &uses)?;
+    let runs = runs_of(alloc, &uses)?;
     let firsts = firsts_of(alloc, source, &uses)?;
     let found = Uses {
         list: &uses,
         furthest: &furthest,
+        runs: &runs,
         firsts: &firsts,
         layout,
     };

@@ -11,6 +11,6 @@ tokens-preserved c =
       count = length-set c.tokens.ends.items (c.tokens.left - 1) c.last_or.result ∙ c.tokens.invariant.count;
       within = omega arith;
       closed = closed;
-      ends = end_more c.args.source.now c.args.pieces.now (c.tokens.left - 1) c.tokens.left c.last_or.result _ c.deref.result.now
+      ends = end_more c.args.source.now c.args.pieces.now (c.tokens.left - 1) c.tokens.left c.last_or.result c.deref.result.now
           c.tokens.ends.items next (omega arith) (c.deref.ensures.value ∙ closed) c.last_or.ensures c.tokens.invariant.ends;
     }

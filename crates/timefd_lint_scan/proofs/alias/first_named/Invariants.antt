@@ -1,6 +1,6 @@
 use Rattle.std.proofs.Common.{◌≡◌, length}
 use Rattle.timefd_lint_scan.specs.Aliases as spec
-use Rattle.timefd_lint_scan.proofs.alias.original_of.Given as goal
+use Rattle.timefd_lint_scan.proofs.alias.first_named.Given as goal
 
 -- The answer for the rest is the answer for everything.
 abbrev pub invariant-aliases : goal.invariant-aliases
