@@ -9,7 +9,7 @@ use crate::line::{LintError, write};
 use crate::options::RunOptions;
 use std::alloc::{AllocError, Global};
 use timefd_bin_streams::Sink;
-use timefd_lint_drawing::{Origin, FindingSeverity, Style, note_as};
+use timefd_lint_drawing::{FindingSeverity, Origin, Style, note_as};
 
 // The code of the note.
 const CODE: &str = "byte-order-mark";
@@ -48,5 +48,12 @@ pub fn note_mark<W: Sink>(
 fn warning(alloc: Global, style: Style, origin: Origin<'_>) -> Result<Vec<u8>, AllocError>
     ensures { IfOk result (λ message. message.items ≡ spec.mark_note style origin.entry) }
 {
-    note_as(alloc, FindingSeverity::Warning, style, origin, CODE, SENTENCE)
+    note_as(
+        alloc,
+        FindingSeverity::Warning,
+        style,
+        origin,
+        CODE,
+        SENTENCE,
+    )
 }
