@@ -26,14 +26,18 @@ def write(crate, functions, folder):
     with open(f"{folder}/proofs/StandIn.antt", "w", encoding="utf-8") as it:
         it.write(HOLE)
     for it in functions:
-        if it.in_trait or it.in_cycle:
-            continue
-        parts = [*it.module, *[it.owner] * bool(it.block), it.name]
-        here = "/".join([folder, "proofs", *parts])
-        shutil.rmtree(here, ignore_errors=True)
-        os.makedirs(here)
-        with open(f"{here}/Proof.antt", "w", encoding="utf-8") as proof:
-            proof.write(STAND_IN.format(crate=crate.name, path=".".join(parts), name=it.name))
+        # The functions of a cycle have one proof, and a method of a trait has another path.
+        if not it.in_trait and not it.in_cycle:
+            write_one(crate, [*it.module, *[it.owner] * bool(it.block), it.name], folder)
+
+
+def write_one(crate, parts, folder):
+    """Puts a stand-in in place of the proof at this path."""
+    here = "/".join([folder, "proofs", *parts])
+    shutil.rmtree(here, ignore_errors=True)
+    os.makedirs(here)
+    with open(f"{here}/Proof.antt", "w", encoding="utf-8") as it:
+        it.write(STAND_IN.format(crate=crate.name, path=".".join(parts), name=parts[-1]))
 
 
 def is_proved(crate, words):
