@@ -131,7 +131,7 @@ class Trial:
                     it.write(text)
             for it in copies:
                 it.add_proofs(self.crate, room)
-            stand_ins.write(self.crate, others, room)
+            stand_ins.write(self.crate, others, all(it in others for it in self.source.functions if it.in_cycle), room)
             only = [word for path in sorted(paths) for word in ("--only", path)] if "" not in paths else []
             words = [kit.rtlib().RATTLE, "check", *self.crate.words(["--jobs", "1", *only], keeps=False), "--incremental", kept]
             how = {"stdout": subprocess.PIPE, "stderr": subprocess.STDOUT, "text": True, "errors": "replace"}
