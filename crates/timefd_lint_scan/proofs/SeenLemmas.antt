@@ -9,7 +9,7 @@ use Rattle.timefd_lint_scan.specs.Aliases.{after_first}
 use Rattle.timefd_lint_scan.specs.Bytes.{Text}
 use Rattle.timefd_lint_scan.specs.Declarations.{has_begun, is_assigned, is_declared, is_declared_before, most_tokens}
 use Rattle.timefd_lint_scan.specs.Scopes.{stays_open}
-use Rattle.timefd_lint_scan.specs.Uses.{IsPast, declares_variable, first_seen, first_start, is_alike, is_meant, is_seen, is_use_of}
+use Rattle.timefd_lint_scan.specs.Uses.{IsPast, declares_variable, first_seen, first_start, is_alike, is_meant, is_past, is_seen, is_use_of}
 use Rattle.timefd_lint_scan.specs.Words.{is_closing, is_opening, text_at, text_before, text_of, tokens_after}
 
 later : (from position start : ℕ) → nat_le from start ≡ false → from ≤ position → nat_le position start ≡ false
@@ -18,7 +18,9 @@ later from position start late order = grind (arith, nat_tests, late, order)
 -- A block that isn't open any more stays so.
 closed : (source : Text) (from position depth : ℕ) (ps : List PlacedToken) → from ≤ position
     → stays_open source from depth ps ≡ false → stays_open source position depth ps ≡ false
-closed source from position depth [] order over = absurd (over)
+closed source from position depth [] order over =
+    let open_then : stays_open source from depth [] ≡ true = refl in
+    absurd (cc (open_then, over))
 closed source from position depth (p ∷ ps) order over = elim (cases_Bool (nat_le from p.start)) [
   | inl early ↦
       let open_then : stays_open source from depth (p ∷ ps) ≡ true = rw early refl in
@@ -45,7 +47,9 @@ closed source from position depth (p ∷ ps) order over = elim (cases_Bool (nat_
 
 begun : (source : Text) (from position : ℕ) (ps : List PlacedToken) → from ≤ position
     → has_begun source from ps ≡ true → has_begun source position ps ≡ true
-begun source from position [] order is = absurd (is)
+begun source from position [] order is =
+    let not_then : has_begun source from [] ≡ false = refl in
+    absurd (cc (not_then, is))
 begun source from position (p ∷ ps) order is = elim (cases_Bool (nat_le from p.start)) [
   | inl early ↦
       let not_then : has_begun source from (p ∷ ps) ≡ false = rw early refl in
@@ -73,7 +77,9 @@ declared_still source from position before after order is =
 -- A name that was declared again stays so.
 declared_on : (source name : Text) (from position : ℕ) (before : Text) (ps : List PlacedToken) → from ≤ position
     → is_declared_before source name from before ps ≡ true → is_declared_before source name position before ps ≡ true
-declared_on source name from position before [] order is = absurd (is)
+declared_on source name from position before [] order is =
+    let not_then : is_declared_before source name from before [] ≡ false = refl in
+    absurd (cc (not_then, is))
 declared_on source name from position before (p ∷ ps) order is = elim (cases_Bool (nat_le from p.start)) [
   | inl early ↦
       let not_then : is_declared_before source name from before (p ∷ ps) ≡ false = rw early refl in
@@ -142,10 +148,11 @@ unmeant source ps declared from position variable first order over =
 
 -- A variable that a name doesn't mean where it is used isn't meant after that.
 pub never_again : (source : Text) (ps : List PlacedToken) (declared : ℕ) (u : Use) → is_use_of source ps declared u ≡ false
-    → bytes_eq (text_of source u.name) (text_at source ps declared) ≡ true
-    → is_alike u.way (bytes_eq (text_before source ps declared 1) (codes "fn")) ≡ true
-    → declares_variable source ps declared ≡ true → first_seen source ps declared ≤ u.name.start
-    → IsPast source ps declared u.name.start
-never_again source ps declared u over same alike variable first = λ position order.
+    → is_past source ps declared u ≡ true → IsPast source ps declared u.name.start
+never_again source ps declared u over past = λ position order.
+    let (named, late) = and_parts _ (nat_le (first_seen source ps declared) u.name.start) past in
+    let (texts, alike) = and_parts _ (is_alike u.way (bytes_eq (text_before source ps declared 1) (codes "fn"))) named in
+    let (variable, same) = and_parts (declares_variable source ps declared) (bytes_eq (text_of source u.name) (text_at source ps declared)) texts in
+    let first : first_seen source ps declared ≤ u.name.start = grind (arith, nat_tests, late) in
     let then : is_meant source ps declared u.name.start ≡ false = rw (same, alike) at over in
     unmeant source ps declared u.name.start position variable first order then

@@ -72,6 +72,13 @@ abbrev pub declares_variable : Text → List PlacedToken → ℕ → Bool
 declares_variable source ps declared =
     bytes_eq (text_before source ps declared 1) (codes "let") || bytes_eq (text_before source ps declared 1) (codes "for")
 
+-- A use with the name that a token declares with `let` or `for`, after the declaration.
+abbrev pub is_past : Text → List PlacedToken → ℕ → Use → Bool
+is_past source ps declared u =
+    declares_variable source ps declared && bytes_eq (text_of source u.name) (text_at source ps declared)
+    && is_alike u.way (bytes_eq (text_before source ps declared 1) (codes "fn"))
+    && nat_le (first_seen source ps declared) u.name.start
+
 -- A name at a position or after it isn't the one that a token declares.
 abbrev pub IsPast : Text → List PlacedToken → ℕ → ℕ → Type 0
 IsPast source ps declared from = (position : ℕ) → from ≤ position → is_meant source ps declared position ≡ false

@@ -1,7 +1,7 @@
 //! The aliases of a source, among which names are looked up.
 
 ghost use Rattle.std.specs.HashMap.{get};
-ghost use Rattle.std.specs.Prelude.{◌≡◌, drop, nat_eq, take};
+ghost use Rattle.std.specs.Prelude.{◌≡◌, ◌<◌, drop, false, get_or, length, nat_eq, take};
 ghost use Rattle.timefd_lint_scan.specs.Aliases as spec;
 ghost use Rattle.timefd_lint_scan.specs.AliasNotes.{AreUnnamed};
 ghost use Rattle.timefd_lint_scan.specs.KeptAliases.{AreAliases};
@@ -79,11 +79,11 @@ fn first_open(
 }
 
 // Whether an alias or one after it may begin up to a position.
-fn may_begin(notes: &AliasNotes, index: usize, position: usize) -> bool {
-    match notes.begins.get(index) {
-        Some(begin) => *begin <= position,
-        None => true,
-    }
+fn may_begin(notes: &AliasNotes, index: usize, position: usize) -> bool
+    ensures below { result ≡ false → index < length notes.now.begins.items }
+    ensures late { result ≡ false → position < get_or notes.now.begins.items index 0 }
+{
+    index >= notes.begins.len() || notes.begins[index] <= position
 }
 
 // The aliases from an index on.

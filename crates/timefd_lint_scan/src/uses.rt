@@ -5,7 +5,7 @@ ghost use Rattle.timefd_lint_scan.specs.Declarations.{is_declared_before};
 ghost use Rattle.timefd_lint_scan.specs.FoundUses.{IsFound};
 ghost use Rattle.timefd_lint_scan.specs.Kept.{IsLayout};
 ghost use Rattle.timefd_lint_scan.specs.Scopes.{reaches, stays_open};
-ghost use Rattle.timefd_lint_scan.specs.Uses.{AreBefore, AreFurthest, AreUnused, IsPast};
+ghost use Rattle.timefd_lint_scan.specs.Uses.{AreBefore, AreFurthest, AreUnused};
 ghost use Rattle.timefd_lint_scan.specs.Uses as spec;
 ghost use Rattle.timefd_lint_scan.specs.Words.{text_at, tokens_after};
 
@@ -232,11 +232,10 @@ fn count_before(uses: Uses<'_>, at: usize) -> usize
     low
 }
 
-// Whether this use isn't of the name that a token declares, and none at its position or after it; `false` if that isn't certain.
-#[tactic(auto, using(crate::proofs::SeenLemmas::never_again))]
+// Whether a use has the name that a token declares with `let` or `for`, and is after the declaration. If it isn't of that name, no use at its
+// position or after it is.
 fn is_past(source: &[u8], pieces: &[PlacedToken], declared: usize, used: Use) -> bool
-    requires { spec.is_use_of source.now pieces.now declared used ≡ false }
-    ensures { result ≡ true → IsPast source.now pieces.now declared used.name.start }
+    ensures { result ≡ spec.is_past source.now pieces.now declared used }
 {
     let is_function = is(text_before(source, pieces, declared, 1), "fn");
     declares_variable(source, pieces, declared)
@@ -274,7 +273,7 @@ fn next_use(
 }
 
 /// What the first use says about the name that a token declares.
-#[tactic(auto, using(crate::proofs::FirstsLemmas::absent, crate::proofs::FirstsLemmas::skipped, crate::proofs::RunsLemmas::one_unused, crate::proofs::RunsLemmas::found_at, crate::proofs::RunsLemmas::none_left))]
+#[tactic(auto, using(crate::proofs::FirstsLemmas::skipped, crate::proofs::RunsLemmas::one_unused, crate::proofs::RunsLemmas::none_left))]
 pub fn known_by_name(
     source: &[u8],
     pieces: &[PlacedToken],

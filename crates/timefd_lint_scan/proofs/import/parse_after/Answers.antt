@@ -1,0 +1,11 @@
+use Rattle.std.proofs.Common.{◌∙◌, ap, sym}
+use Rattle.std.specs.Prelude.{bytes_eq, codes}
+use Rattle.timefd_lint_scan.proofs.ImportLemmas.{passed_colons}
+use Rattle.timefd_lint_scan.proofs.import.parse_after.Goals as goal
+
+pub parse_or_list-requires : goal.parse_or_list-requires
+parse_or_list-requires c =
+    passed_colons c.args.source.now c.args.pieces.now _ c.args.until c.in-len3-up.len_at_least
+    (ap (λ t. bytes_eq t (codes ":")) (sym c.text_of.ensures) ∙ (sym c.is.ensures ∙ c.if-is.true))
+    (ap (λ t. bytes_eq t (codes ":")) (sym c.text_of-then-is.ensures) ∙ (sym c.is-then-is.ensures ∙ c.if-is-2.true))
+    c.requires
