@@ -78,7 +78,7 @@ pub absent : (source name : Text) (position : ℕ) (all : List Alias) (kept : �
 absent source name position all kept none are =
     nothing source name position all (λ i d within. unkept source name position i d all kept none are within)
 
-index_or : Option LastAlias → ℕ
+abbrev index_or : Option LastAlias → ℕ
 index_or None = 0
 index_or (Some last) = last.index
 
