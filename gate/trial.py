@@ -135,8 +135,7 @@ class Trial:
             only = [word for path in sorted(paths) for word in ("--only", path)] if "" not in paths else []
             words = [kit.rtlib().RATTLE, "check", *self.crate.words(["--jobs", "1", *only], keeps=False), "--incremental", kept]
             how = {"stdout": subprocess.PIPE, "stderr": subprocess.STDOUT, "text": True, "errors": "replace"}
-            # Half the search closes nearly all that the whole one does, and what fails costs half.
-            words += ["--allow-holes", "--margin"] if others else []
+            words += ["--allow-holes"] if others else []
             return subprocess.run(words, cwd=room, stdin=subprocess.DEVNULL, **how)
 
 
