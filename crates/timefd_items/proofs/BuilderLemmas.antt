@@ -87,9 +87,9 @@ some_within : (b : Bool) (bytes : ℕ) → is_some (if b then Some bytes else No
 some_within true bytes = refl
 some_within false bytes = refl
 
-pub sum_tells : (k : ℕ) (ts : List Tree) → largest ts ≤ 2 ^ 64 - 1
+pub sum_is_kept : (k : ℕ) (ts : List Tree) → largest ts ≤ 2 ^ 64 - 1
     → is_some (kept_sum (ending k ts)) ≡ nat_le (reserve_all (trees (ending k ts))) (2 ^ 64 - 1)
-sum_tells k ts h =
+sum_is_kept k ts h =
     ap is_some (kept_sum-fits (ending k ts) (omega (arith, h, largest-drop (length ts - k) ts)))
     ∙ some_within (nat_le (reserve_all (trees (ending k ts))) (2 ^ 64 - 1))
     (reserve_all (trees (ending k ts)))

@@ -11,8 +11,8 @@ use Rattle.timefd_lang_component.specs.Equality.{same_component}
 sound : {A : Type 0} {same : A → A → Bool} → IsEquality A same → (a b : A) → same a b ≡ true → a ≡ b
 sound is a b e = (is.exact a b).0 e
 
-tells : {A : Type 0} {same : A → A → Bool} → IsEquality A same → (a : A) → same a a ≡ true
-tells is a = (is.exact a a).1 refl
+reflexive : {A : Type 0} {same : A → A → Bool} → IsEquality A same → (a : A) → same a a ≡ true
+reflexive is a = (is.exact a a).1 refl
 
 pub component_sound : (a b : Component) → same_component a b ≡ true → a ≡ b
 component_sound (Day a) (Day b) e = ap Day (sound modifiers.day a b e)
@@ -86,50 +86,50 @@ component_sound (Year a) (Year b) e = ap Year (sound modifiers.year a b e)
 component_sound _ _ e = absurd (false≢true e)
 
 pub component_same : (a : Component) → same_component a a ≡ true
-component_same (Day a) = tells modifiers.day a
-component_same (MonthShort a) = tells modifiers.month_short a
-component_same (MonthLong a) = tells modifiers.month_long a
-component_same (MonthNumerical a) = tells modifiers.month_numerical a
-component_same (Ordinal a) = tells modifiers.ordinal a
-component_same (WeekdayShort a) = tells modifiers.weekday_short a
-component_same (WeekdayLong a) = tells modifiers.weekday_long a
-component_same (WeekdaySunday a) = tells modifiers.weekday_sunday a
-component_same (WeekdayMonday a) = tells modifiers.weekday_monday a
-component_same (WeekNumberIso a) = tells modifiers.week_number_iso a
-component_same (WeekNumberSunday a) = tells modifiers.week_number_sunday a
-component_same (WeekNumberMonday a) = tells modifiers.week_number_monday a
+component_same (Day a) = reflexive modifiers.day a
+component_same (MonthShort a) = reflexive modifiers.month_short a
+component_same (MonthLong a) = reflexive modifiers.month_long a
+component_same (MonthNumerical a) = reflexive modifiers.month_numerical a
+component_same (Ordinal a) = reflexive modifiers.ordinal a
+component_same (WeekdayShort a) = reflexive modifiers.weekday_short a
+component_same (WeekdayLong a) = reflexive modifiers.weekday_long a
+component_same (WeekdaySunday a) = reflexive modifiers.weekday_sunday a
+component_same (WeekdayMonday a) = reflexive modifiers.weekday_monday a
+component_same (WeekNumberIso a) = reflexive modifiers.week_number_iso a
+component_same (WeekNumberSunday a) = reflexive modifiers.week_number_sunday a
+component_same (WeekNumberMonday a) = reflexive modifiers.week_number_monday a
 component_same (CalendarYearFullExtendedRange a) =
-    tells modifiers.calendar_year_full_extended_range a
+    reflexive modifiers.calendar_year_full_extended_range a
 component_same (CalendarYearFullStandardRange a) =
-    tells modifiers.calendar_year_full_standard_range a
+    reflexive modifiers.calendar_year_full_standard_range a
 component_same (CalendarYearCenturyExtendedRange a) =
-    tells modifiers.calendar_year_century_extended_range a
+    reflexive modifiers.calendar_year_century_extended_range a
 component_same (CalendarYearCenturyStandardRange a) =
-    tells modifiers.calendar_year_century_standard_range a
-component_same (IsoYearFullExtendedRange a) = tells modifiers.iso_year_full_extended_range a
-component_same (IsoYearFullStandardRange a) = tells modifiers.iso_year_full_standard_range a
-component_same (IsoYearCenturyExtendedRange a) = tells modifiers.iso_year_century_extended_range a
-component_same (IsoYearCenturyStandardRange a) = tells modifiers.iso_year_century_standard_range a
-component_same (CalendarYearLastTwo a) = tells modifiers.calendar_year_last_two a
-component_same (IsoYearLastTwo a) = tells modifiers.iso_year_last_two a
-component_same (Hour12 a) = tells modifiers.hour12 a
-component_same (Hour24 a) = tells modifiers.hour24 a
-component_same (Minute a) = tells modifiers.minute a
-component_same (Period a) = tells modifiers.period a
-component_same (Second a) = tells modifiers.second a
-component_same (Subsecond a) = tells modifiers.subsecond a
-component_same (OffsetHour a) = tells modifiers.offset_hour a
-component_same (OffsetMinute a) = tells modifiers.offset_minute a
-component_same (OffsetSecond a) = tells modifiers.offset_second a
-component_same (Ignore a) = tells modifiers.ignore a
-component_same (UnixTimestampSecond a) = tells modifiers.unix_timestamp_second a
-component_same (UnixTimestampMillisecond a) = tells modifiers.unix_timestamp_millisecond a
-component_same (UnixTimestampMicrosecond a) = tells modifiers.unix_timestamp_microsecond a
-component_same (UnixTimestampNanosecond a) = tells modifiers.unix_timestamp_nanosecond a
-component_same (End a) = tells modifiers.end a
-component_same (Month a) = tells modifiers.month a
-component_same (Weekday a) = tells modifiers.weekday a
-component_same (WeekNumber a) = tells modifiers.week_number a
-component_same (Hour a) = tells modifiers.hour a
-component_same (UnixTimestamp a) = tells modifiers.unix_timestamp a
-component_same (Year a) = tells modifiers.year a
+    reflexive modifiers.calendar_year_century_standard_range a
+component_same (IsoYearFullExtendedRange a) = reflexive modifiers.iso_year_full_extended_range a
+component_same (IsoYearFullStandardRange a) = reflexive modifiers.iso_year_full_standard_range a
+component_same (IsoYearCenturyExtendedRange a) = reflexive modifiers.iso_year_century_extended_range a
+component_same (IsoYearCenturyStandardRange a) = reflexive modifiers.iso_year_century_standard_range a
+component_same (CalendarYearLastTwo a) = reflexive modifiers.calendar_year_last_two a
+component_same (IsoYearLastTwo a) = reflexive modifiers.iso_year_last_two a
+component_same (Hour12 a) = reflexive modifiers.hour12 a
+component_same (Hour24 a) = reflexive modifiers.hour24 a
+component_same (Minute a) = reflexive modifiers.minute a
+component_same (Period a) = reflexive modifiers.period a
+component_same (Second a) = reflexive modifiers.second a
+component_same (Subsecond a) = reflexive modifiers.subsecond a
+component_same (OffsetHour a) = reflexive modifiers.offset_hour a
+component_same (OffsetMinute a) = reflexive modifiers.offset_minute a
+component_same (OffsetSecond a) = reflexive modifiers.offset_second a
+component_same (Ignore a) = reflexive modifiers.ignore a
+component_same (UnixTimestampSecond a) = reflexive modifiers.unix_timestamp_second a
+component_same (UnixTimestampMillisecond a) = reflexive modifiers.unix_timestamp_millisecond a
+component_same (UnixTimestampMicrosecond a) = reflexive modifiers.unix_timestamp_microsecond a
+component_same (UnixTimestampNanosecond a) = reflexive modifiers.unix_timestamp_nanosecond a
+component_same (End a) = reflexive modifiers.end a
+component_same (Month a) = reflexive modifiers.month a
+component_same (Weekday a) = reflexive modifiers.weekday a
+component_same (WeekNumber a) = reflexive modifiers.week_number a
+component_same (Hour a) = reflexive modifiers.hour a
+component_same (UnixTimestamp a) = reflexive modifiers.unix_timestamp a
+component_same (Year a) = reflexive modifiers.year a

@@ -33,10 +33,10 @@ each-map f P (x ∷ xs) all = (all x, each-map f P xs all)
 -- a property that a test decides
 pub each-passes : {A : Type 0} (test : A → Bool) (P : A → Type 0) → ((x : A) → test x ≡ true → P x)
     → (xs : List A) → list_all test xs ≡ true → Each P xs
-each-passes test P tells [] e = tt
-each-passes test P tells (x ∷ xs) e =
+each-passes test P passes [] e = tt
+each-passes test P passes (x ∷ xs) e =
     let p = and_parts (test x) (list_all test xs) e in
-    (tells x p.0, each-passes test P tells xs p.1)
+    (passes x p.0, each-passes test P passes xs p.1)
 
 -- what is found by its exact name is an element of the list, and has that name
 pub named-found : {A : Type 0} (name : A → Text) (P : A → Type 0) (text : Text) (xs : List A)
