@@ -76,10 +76,12 @@ def starts():
     return [f"start_of {it.variant} = {start}" for it, start in zip(ALL, STARTS)]
 
 
+VARIANTS = "use Rattle.timefd_language.specs.declared.strftime.letter.Composite.TheVariants"
 CODE, SPECS, HEADER = "crates/timefd_c_nodes/src/reading/composite.rt", "crates/timefd_c_nodes/specs/Reading/Composites.antt", "examples/timefd.h"
 TABLES = [
     Table(CODE, Line("pub const COMPOSITES:"), lambda: [f'pub const COMPOSITES: &str = "{TEXT}";']),
     Table(CODE, Between(("let (start, len, bytes) = match composite {",), "    };"), places),
+    Table(SPECS, Line(VARIANTS), lambda: [f"{VARIANTS}.{{{', '.join(it.variant for it in ALL)}}}"], "the variants"),
     Table(SPECS, Line("DateAndTime ∷"), lambda: [f"    {' ∷ '.join(it.variant for it in ALL)} ∷ []"], "all_composites"),
     Table(SPECS, Between(("abbrev pub start_of :",), ""), starts, "start_of"),
     Table(HEADER, Line("#define TIMEFD_COMPOSITES "), lambda: [f'#define TIMEFD_COMPOSITES "{TEXT}"']),
