@@ -27,6 +27,10 @@ def text_arm(pattern, text):
     return [f"            {pattern} => {{", f"                {quoted(text)}", "            }"]
 
 
+def variants():
+    return [line for it in WARNINGS for line in (f"    /// {it.about}", f"    {it.variant},")]
+
+
 def texts(key):
     return [line for it in WARNINGS for line in text_arm(f"Warning::{it.variant}", getattr(it, key))]
 
@@ -125,9 +129,7 @@ AT_MOST = r"(?<=≤ )\d+"
 MATCH = "match self {"
 
 CODE = [
-    Table(WARNING, Between(("pub enum Warning {",), "}"), lambda: [
-        line for it in WARNINGS for line in (f"    /// {it.about}", f"    {it.variant},")
-    ]),
+    Table(WARNING, Between(("pub enum Warning {",), "}"), variants),
     Table(WARNING, Between(("pub fn name(", MATCH), "        }"), lambda: texts("name")),
     Table(WARNING, Between(("pub fn sentence(", MATCH), "        }"), lambda: texts("sentence")),
     each(
