@@ -145,5 +145,5 @@ class Part:
 
 
 def each(file, place, rows, template):
-    """A table with one line for each component, or each name."""
+    """A table with one line for each row."""
     return Table(file, place, lambda: [template.format(it) for it in rows])

@@ -16,7 +16,7 @@ def equalities():
 
 
 def cases(file, definition, components, left, right, before="", width=WIDTH):
-    """A definition by cases, with an equation for each component. Its sides are texts or functions."""
+    """A definition by cases, with an equation for each row. Its sides are texts or functions."""
     def lines():
         sides = [side if callable(side) else side.format for side in (left, right)]
         return [line for it in components for line in equation(*(side(it) for side in sides), width)]

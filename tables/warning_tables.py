@@ -107,8 +107,8 @@ def bash_names():
 
 def imported(file):
     """The import of all variants."""
-    variants = ", ".join(it.variant for it in WARNINGS)
-    return Table(f"crates/timefd_{file}.antt", Line(VARIANTS), lambda: [f"{VARIANTS}{{{variants}}}"], "import of warnings")
+    listed_names = ", ".join(it.variant for it in WARNINGS)
+    return Table(f"crates/timefd_{file}.antt", Line(VARIANTS), lambda: [f"{VARIANTS}{{{listed_names}}}"], "import of warnings")
 
 
 def counted(file, begins, number):
