@@ -13,6 +13,7 @@ pub mod Scopes
 pub mod Declarations
 pub mod Aliases
 pub mod Calls
+pub mod OwnCalls
 pub mod Arguments
 pub mod Dates
 pub mod Attributes

@@ -3,6 +3,7 @@ use Rattle.std.specs.Prelude.{ℕ, ◌≡◌, ◌⊎◌, Bool, true, false, not,
 use Rattle.std.specs.List.{flat_map}
 use Rattle.timefd_lint_scan.specs.declared.description.SourceDescription.{SourceDescription}
 use Rattle.timefd_lint_scan.specs.declared.look.Look.{Look}
+use Rattle.timefd_lint_scan.specs.declared.own_call.OwnCall.{OwnCall}
 use Rattle.timefd_lint_scan.specs.declared.piece.PlacedToken.{PlacedToken}
 use Rattle.timefd_lint_scan.specs.declared.uses.Use.{Use}
 use Rattle.timefd_lint_scan.specs.Aliases.{aliases_in}
@@ -49,15 +50,15 @@ abbrev pub unread_calls : List SourceDescription → Bool → List Use → List 
 unread_calls ds has_chrono us = flat_map (unread ds has_chrono) us
 
 -- such names among the tokens of a source in which these descriptions are found
-abbrev pub calls_in : Text → List PlacedToken → List SourceDescription → List ℕ
-calls_in source ps ds =
-    unread_calls ds (has_word source (codes "chrono") ps) (uses_in source ps (aliases_in source ps))
+abbrev pub calls_in : Text → List OwnCall → List PlacedToken → List SourceDescription → List ℕ
+calls_in source own ps ds =
+    unread_calls ds (has_word source (codes "chrono") ps) (uses_in source ps (aliases_in source own ps) own)
 
--- What is seen in a source that is cut into these tokens.
-pub record IsSeen (source : Text) (all : List PlacedToken) (look : Look) : Type 0 where
+-- What is seen in a source that is cut into these tokens, with these calls of its project.
+pub record IsSeen (source : Text) (own : List OwnCall) (all : List PlacedToken) (look : Look) : Type 0 where
   pub tokens : AreTokens (length source) source all
-  pub descriptions : AreDescribed source 0 (candidates source all) look.descriptions.items
-  pub calls : look.calls.items ≡ calls_in source (significant all) look.descriptions.items
+  pub descriptions : AreDescribed source 0 (candidates source own all) look.descriptions.items
+  pub calls : look.calls.items ≡ calls_in source own (significant all) look.descriptions.items
   pub comments : look.comments.items ≡ unknown_marks source all
 
 -- Nothing is seen.
@@ -67,5 +68,5 @@ pub record IsBlank (look : Look) : Type 0 where
   pub comments : look.comments.items ≡ []
 
 -- Nothing is seen in a source that has none of the names that descriptions come with.
-abbrev pub IsLook : Text → Look → Type 0
-IsLook source look = (HasNoName source × IsBlank look) ⊎ ((all : List PlacedToken) × IsSeen source all look)
+abbrev pub IsLook : Text → List OwnCall → Look → Type 0
+IsLook source own look = (HasNoName source own × IsBlank look) ⊎ ((all : List PlacedToken) × IsSeen source own all look)

@@ -61,5 +61,5 @@ is_refused_in_rust Moment reason = true
 -- In a source of Rust a format of chrono or jiff is refused if the library refuses it. Any other is refused if version 3
 -- has no text for it.
 abbrev pub is_refused : Finder → Dialect → Reason → Bool
-is_refused Rust dialect reason = is_refused_in_rust dialect reason
+is_refused (Rust calls) dialect reason = is_refused_in_rust dialect reason
 is_refused (Keys format names) dialect reason = true

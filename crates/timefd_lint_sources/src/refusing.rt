@@ -12,7 +12,7 @@ pub fn is_refused(finder: Finder<'_>, dialect: Dialect, reason: Reason) -> bool
     ensures { result ≡ spec.is_refused finder.entry dialect reason }
 {
     match finder {
-        Finder::Rust => is_refused_in_rust(dialect, reason),
+        Finder::Rust(_) => is_refused_in_rust(dialect, reason),
         Finder::Keys(_, _) => true,
     }
 }
