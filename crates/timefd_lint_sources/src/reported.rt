@@ -128,11 +128,11 @@ fn judged(
 {
     let place = place_of(source.finder, description);
     let verdict = judge(alloc, place, reporting.levels, text)?;
-    reported(alloc, reporting, source, from, description, text, verdict)
+    report_verdict(alloc, reporting, source, from, description, text, verdict)
 }
 
 // Reports what is wrong with a description, or what is left of that if a comment is about it.
-fn reported(
+fn report_verdict(
     alloc: Global,
     reporting: Reporting,
     source: SourceText<'_>,
@@ -147,14 +147,14 @@ fn reported(
         source.entry description.now verdict reported.end reported.message.items) }
 {
     if is_covered(reporting, source, description) {
-        left(alloc, reporting, source, from, description, text, verdict)
+        report_left(alloc, reporting, source, from, description, text, verdict)
     } else {
-        whole(alloc, reporting, source, from, description, text, verdict)
+        report_whole(alloc, reporting, source, from, description, text, verdict)
     }
 }
 
 // Reports all that is wrong with a description.
-fn whole(
+fn report_whole(
     alloc: Global,
     reporting: Reporting,
     source: SourceText<'_>,
@@ -174,7 +174,7 @@ fn whole(
 }
 
 // Reports what is left of what is wrong with a description.
-fn left(
+fn report_left(
     alloc: Global,
     reporting: Reporting,
     source: SourceText<'_>,
