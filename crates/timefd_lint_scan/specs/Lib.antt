@@ -21,6 +21,7 @@ pub mod Layouts
 pub mod AliasNotes
 pub mod KeptAliases
 pub mod Uses
+pub mod KeptTokens
 pub mod Kept
 pub mod FoundUses
 pub mod Values

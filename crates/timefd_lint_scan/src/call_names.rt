@@ -7,12 +7,12 @@ ghost use Rattle.timefd_lint_scan.specs.OwnCalls as spec;
 use crate::aliases::{Aliases, real_name};
 use crate::calls::{Call, call_of, is_turbofish};
 use crate::dialect::is;
+use crate::kept::KeptToken;
 use crate::own_call::own_named;
-use crate::piece::PlacedToken;
 use crate::word::{position_at, text_at, text_before};
 
 // The index of the name of a call with a type after it: `f::<T>(`.
-fn turbofish_index(source: &[u8], pieces: &[PlacedToken], opening: usize) -> Option<usize>
+fn turbofish_index(source: &[u8], pieces: &[KeptToken], opening: usize) -> Option<usize>
     ensures { result ≡ spec.turbofish_index source.now pieces.now opening }
 {
     if is_turbofish(source, pieces, opening) {
@@ -23,7 +23,7 @@ fn turbofish_index(source: &[u8], pieces: &[PlacedToken], opening: usize) -> Opt
 }
 
 // The index of the name of the call whose bracket this token opens: `f(`, `.f(`, `f::<T>(`, `f!(`, `f![`.
-fn name_index(source: &[u8], pieces: &[PlacedToken], opening: usize) -> Option<usize>
+fn name_index(source: &[u8], pieces: &[KeptToken], opening: usize) -> Option<usize>
     ensures { result ≡ spec.name_index source.now pieces.now opening }
 {
     let before = text_before(source, pieces, opening, 1);
@@ -41,7 +41,7 @@ fn name_index(source: &[u8], pieces: &[PlacedToken], opening: usize) -> Option<u
 // The name before `::` in front of a name; empty if there is none.
 fn owner_at<'a>(
     source: &'a [u8],
-    pieces: &[PlacedToken],
+    pieces: &[KeptToken],
     aliases: Aliases<'_>,
     name: usize,
 ) -> &'a [u8]
@@ -61,7 +61,7 @@ fn owner_at<'a>(
 // The project's call whose name is at an index. A function's definition is no call.
 fn own_at(
     source: &[u8],
-    pieces: &[PlacedToken],
+    pieces: &[KeptToken],
     aliases: Aliases<'_>,
     name: Option<usize>,
 ) -> Option<Call>
@@ -86,7 +86,7 @@ fn own_at(
 // The project's call whose arguments are in the bracket that this token opens.
 fn own_call(
     source: &[u8],
-    pieces: &[PlacedToken],
+    pieces: &[KeptToken],
     aliases: Aliases<'_>,
     opening: usize,
 ) -> Option<Call>
@@ -102,7 +102,7 @@ fn own_call(
 
 /// The call whose arguments are in the bracket that this token opens. What the settings of a project say about a name counts
 /// before what the name means in `time` and other libraries.
-pub fn call_at(source: &[u8], pieces: &[PlacedToken], aliases: Aliases<'_>, opening: usize) -> Call
+pub fn call_at(source: &[u8], pieces: &[KeptToken], aliases: Aliases<'_>, opening: usize) -> Call
     requires { AreAliases source.now aliases }
     ensures { result ≡ spec.call_at source.now pieces.now aliases.entry.list.now aliases.entry.own.now opening }
 {

@@ -15,6 +15,7 @@ use crate::dates::is_of_dates;
 use crate::dialect::FormatLanguage;
 use crate::flow::outermost;
 use crate::frames::{innermost, pass};
+use crate::kept::KeptToken;
 use crate::known::Items;
 use crate::literal::literal_text;
 use crate::marks::{LanguageMark, reported_at, still_open};
@@ -128,7 +129,7 @@ pub fn push_any(
 pub fn described_by(
     alloc: Global,
     source: &str,
-    pieces: &[PlacedToken],
+    pieces: &[KeptToken],
     aliases: Aliases<'_>,
     uses: Uses<'_>,
     marks: &[LanguageMark],
@@ -145,10 +146,11 @@ pub fn described_by(
     let mut end = 0;
     for (index, piece) in pieces.iter().enumerate() {
         pass(&mut frames, source.as_bytes(), pieces, aliases, uses, index)?;
+        let piece = piece.placed();
         comments = still_open(comments, piece.start);
         let dialect = reported_at(comments, piece.start);
         let frame = innermost(&frames);
-        let candidate = candidate_at(source.as_bytes(), pieces, index, *piece, frame, dialect);
+        let candidate = candidate_at(source.as_bytes(), pieces, index, piece, frame, dialect);
         let found = described_any(alloc, source, candidate)?;
         end = push_any(&mut descriptions, found, end)?;
     }

@@ -9,8 +9,8 @@ use crate::aliases::Aliases;
 use crate::call_names::call_at;
 use crate::calls::{Call, OpenBracket};
 use crate::dialect::is;
+use crate::kept::KeptToken;
 use crate::known::{Known, known_by_call};
-use crate::piece::PlacedToken;
 use crate::uses::{Uses, known_by_name};
 use crate::value::{is_operator, is_value};
 use crate::word::{is_word_at, text_after, text_at, text_before};
@@ -44,12 +44,7 @@ fn with_pending(frame: OpenBracket, pending: Option<Known>) -> OpenBracket
 }
 
 /// A colon is followed by a type, or the value of a field.
-fn after_colon(
-    source: &[u8],
-    pieces: &[PlacedToken],
-    index: usize,
-    frame: OpenBracket,
-) -> OpenBracket
+fn after_colon(source: &[u8], pieces: &[KeptToken], index: usize, frame: OpenBracket) -> OpenBracket
     ensures { result ≡ spec.after_colon source.now pieces.now index frame }
 {
     if is(text_before(source, pieces, index, 1), ":")
@@ -69,7 +64,7 @@ fn after_colon(
 /// whole expression.
 fn assigned(
     source: &[u8],
-    pieces: &[PlacedToken],
+    pieces: &[KeptToken],
     uses: Uses<'_>,
     index: usize,
     frame: OpenBracket,
@@ -86,7 +81,7 @@ fn assigned(
 
 fn after_equals_sign(
     source: &[u8],
-    pieces: &[PlacedToken],
+    pieces: &[KeptToken],
     uses: Uses<'_>,
     index: usize,
     frame: OpenBracket,
@@ -113,7 +108,7 @@ fn is_condition(text: &[u8]) -> bool
 }
 
 /// Whether a token is the name of a constant, or of a variable.
-fn names_value(source: &[u8], pieces: &[PlacedToken], index: usize) -> bool
+fn names_value(source: &[u8], pieces: &[KeptToken], index: usize) -> bool
     ensures { result ≡ spec.names_value source.now pieces.now index }
 {
     let before = text_before(source, pieces, index, 1);
@@ -125,7 +120,7 @@ fn names_value(source: &[u8], pieces: &[PlacedToken], index: usize) -> bool
 /// The bracket after a word: `let`, the name of an item or of a variable, `in`.
 fn after_word(
     source: &[u8],
-    pieces: &[PlacedToken],
+    pieces: &[KeptToken],
     uses: Uses<'_>,
     index: usize,
     frame: OpenBracket,
@@ -156,7 +151,7 @@ fn after_word(
 /// The innermost bracket after a token that neither opens nor closes one and isn't a comma.
 pub fn entered(
     source: &[u8],
-    pieces: &[PlacedToken],
+    pieces: &[KeptToken],
     uses: Uses<'_>,
     index: usize,
     frame: OpenBracket,
@@ -184,7 +179,7 @@ fn is_handing_on(name: &[u8]) -> bool
 }
 
 /// Whether the round bracket that a token opens only groups a value, or is a call that passes it on.
-fn is_group(source: &[u8], pieces: &[PlacedToken], index: usize) -> bool
+fn is_group(source: &[u8], pieces: &[KeptToken], index: usize) -> bool
     ensures { result ≡ spec.is_group source.now pieces.now index }
 {
     let before = text_before(source, pieces, index, 1);
@@ -198,7 +193,7 @@ fn is_group(source: &[u8], pieces: &[PlacedToken], index: usize) -> bool
 }
 
 /// Whether the square bracket that a token opens is an array or a `vec![..]`.
-fn is_array(source: &[u8], pieces: &[PlacedToken], index: usize) -> bool
+fn is_array(source: &[u8], pieces: &[KeptToken], index: usize) -> bool
     ensures { result ≡ spec.is_array source.now pieces.now index }
 {
     let before = text_before(source, pieces, index, 1);
@@ -213,7 +208,7 @@ fn is_array(source: &[u8], pieces: &[PlacedToken], index: usize) -> bool
 }
 
 /// Whether the value of the bracket that a token opens is one of the values inside.
-fn is_around_values(source: &[u8], pieces: &[PlacedToken], index: usize) -> bool
+fn is_around_values(source: &[u8], pieces: &[KeptToken], index: usize) -> bool
     ensures { result ≡ spec.is_around_values source.now pieces.now index }
 {
     let text = text_at(source, pieces, index);
@@ -240,7 +235,7 @@ pub fn pending_of(frame: Option<OpenBracket>) -> Option<Known>
 /// arguments of a known call.
 fn passed_into(
     source: &[u8],
-    pieces: &[PlacedToken],
+    pieces: &[KeptToken],
     index: usize,
     call: Call,
     outer: Option<OpenBracket>,
@@ -262,7 +257,7 @@ fn passed_into(
 /// The bracket that a token opens, inside of another one.
 pub fn opened(
     source: &[u8],
-    pieces: &[PlacedToken],
+    pieces: &[KeptToken],
     aliases: Aliases<'_>,
     index: usize,
     outer: Option<OpenBracket>,
@@ -299,7 +294,7 @@ pub fn outermost() -> OpenBracket
 /// What is known about a token that is a whole value, because of what the value is passed to.
 pub fn known_of(
     source: &[u8],
-    pieces: &[PlacedToken],
+    pieces: &[KeptToken],
     index: usize,
     frame: Option<OpenBracket>,
 ) -> Option<Known>

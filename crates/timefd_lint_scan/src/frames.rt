@@ -9,7 +9,7 @@ use crate::aliases::Aliases;
 use crate::calls::OpenBracket;
 use crate::dialect::is;
 use crate::flow::{entered, opened, settled};
-use crate::piece::PlacedToken;
+use crate::kept::KeptToken;
 use crate::uses::Uses;
 use crate::word::{is_closing, is_opening, text_after, text_at};
 use std::alloc::AllocError;
@@ -46,7 +46,7 @@ fn with_comma(frame: OpenBracket) -> OpenBracket
 
 /// Whether another statement, arm or argument begins after a closing token: after a block that no `else`
 /// follows.
-fn is_end(source: &[u8], pieces: &[PlacedToken], index: usize) -> bool
+fn is_end(source: &[u8], pieces: &[KeptToken], index: usize) -> bool
     ensures { result ≡ spec.is_end source.now pieces.now index }
 {
     is(text_at(source, pieces, index), "}") && !is(text_after(source, pieces, index, 1), "else")
@@ -55,7 +55,7 @@ fn is_end(source: &[u8], pieces: &[PlacedToken], index: usize) -> bool
 /// The innermost bracket after a token that doesn't open one.
 fn after_token(
     source: &[u8],
-    pieces: &[PlacedToken],
+    pieces: &[KeptToken],
     uses: Uses<'_>,
     index: usize,
     frame: OpenBracket,
@@ -81,7 +81,7 @@ fn after_token(
 fn replace(
     frames: &mut Vec<OpenBracket>,
     source: &[u8],
-    pieces: &[PlacedToken],
+    pieces: &[KeptToken],
     uses: Uses<'_>,
     index: usize,
 ) -> Result<(), AllocError>
@@ -103,7 +103,7 @@ fn replace(
 pub fn pass(
     frames: &mut Vec<OpenBracket>,
     source: &[u8],
-    pieces: &[PlacedToken],
+    pieces: &[KeptToken],
     aliases: Aliases<'_>,
     uses: Uses<'_>,
     index: usize,

@@ -26,6 +26,7 @@ mod frames;
 mod furthest;
 mod gathered;
 mod import;
+mod kept;
 pub mod known;
 pub mod laws;
 mod layout;

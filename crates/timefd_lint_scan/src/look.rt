@@ -15,11 +15,11 @@ use crate::firsts::firsts_of;
 use crate::furthest::furthest_of;
 use crate::gathered::{Gathered, tokens_of};
 use crate::import::aliases_of;
+use crate::kept::KeptToken;
 use crate::layout::layout_of;
 use crate::marks::{LanguageMark, marks_of, unknown_marks};
 use crate::names::may_describe;
 use crate::own_call::OwnCall;
-use crate::piece::PlacedToken;
 use crate::runs::runs_of;
 use crate::uses::{Use, Uses};
 use crate::using::uses_of;
@@ -47,12 +47,12 @@ struct SeenTokens {
 }
 
 /// Whether a word is among these tokens.
-fn has_word(source: &[u8], pieces: &[PlacedToken], word: &str) -> bool
+fn has_word(source: &[u8], pieces: &[KeptToken], word: &str) -> bool
     ensures { result ≡ spec.has_word source.now word.now pieces.now }
 {
     let mut rest = pieces;
     'tokens: while let [piece, after @ ..] = rest {
-        if is(text_of(source, *piece), word) {
+        if is(piece.text(source), word) {
             return true;
         }
         rest = after;
@@ -146,7 +146,7 @@ fn seen_in(
     alloc: Global,
     source: &str,
     own: &[OwnCall],
-    pieces: &[PlacedToken],
+    pieces: &[KeptToken],
     marks: &[LanguageMark],
 ) -> Result<SeenTokens, AllocError>
     ensures described { IfOk result (λ seen. AreDescribed source.now 0

@@ -1,4 +1,4 @@
-use Rattle.std.proofs.Common.{◌∙◌, ap, refl, rules, arith}
+use Rattle.std.proofs.Common.{◌∙◌, ap, rules, arith}
 use Rattle.timefd_lint_scan.proofs.CandidateLemmas.{at_last, one_more, reported_at_token}
 use Rattle.timefd_lint_scan.specs.Frames.{passed}
 use Rattle.timefd_lint_scan.proofs.description.described_by.Goals as goal
@@ -10,7 +10,7 @@ loop-index-preserved c =
     c.candidate_at-candidate.result c.in_ok-found.found c.loop-index.end c.in_ok-end.end
     c.loop-index.descriptions.items c.push_any.new.descriptions.items
     (first_of (search rules, omega (arith, c.loop-index-test.true)))
-    refl
+    (c.placed-piece.ensures ∙ c.index-pieces-index.is)
     (c.in_ok-pass.ensures
     ∙ ap (λ s. passed s c.args.pieces.now c.args.aliases.list.now c.args.aliases.own.now c.args.uses.list.now c.loop-index.index c.loop-index.frames.items) c.as_bytes.ensures.value)
     c.still_open-comments.ensures

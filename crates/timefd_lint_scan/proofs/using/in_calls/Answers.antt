@@ -1,4 +1,4 @@
-use Rattle.std.proofs.Common.{◌∙◌, ap, refl, rules, arith}
+use Rattle.std.proofs.Common.{◌∙◌, ap, rules, arith}
 use Rattle.timefd_lint_scan.specs.Frames.{passed}
 use Rattle.timefd_lint_scan.proofs.UsingLemmas.{at_last, one_more, used_at}
 use Rattle.timefd_lint_scan.proofs.using.in_calls.Goals as goal
@@ -9,7 +9,7 @@ loop-index-preserved c =
     c.loop-index.frames.items c.pass.new.frames.items c.use_at.result c.loop-index.uses.items
     c.push_any.new.uses.items
     (first_of (search rules, omega (arith, c.loop-index-test.true)))
-    refl
+    (c.placed.ensures ∙ c.index-pieces-index.is)
     (c.in_ok-pass.ensures
     ∙ ap (λ u. passed c.args.source.now c.args.pieces.now c.args.aliases.list.now c.args.aliases.own.now u c.loop-index.index c.loop-index.frames.items)
     c.no_uses-none.ensures.none)
