@@ -8,7 +8,7 @@ use Rattle.timefd_lint_scan.specs.Bytes.{Text}
 use Rattle.timefd_lint_scan.specs.Candidates.{candidates_in, significant}
 use Rattle.timefd_lint_scan.specs.Found.{AllStandIn, AreDescribed, AreDescriptionsOf, AreInOrder}
 use Rattle.timefd_lint_scan.specs.Gathered.{AreGathered}
-use Rattle.timefd_lint_scan.specs.Looks.{IsLook, calls_in}
+use Rattle.timefd_lint_scan.specs.Looks.{AreUnreadCalls, IsLook}
 use Rattle.timefd_lint_scan.specs.Marks as spec
 use Rattle.timefd_lint_scan.proofs.CandidateLemmas.{all_in_order, all_stand}
 use Rattle.timefd_lint_scan.proofs.FoundLemmas.{at_first}
@@ -33,7 +33,7 @@ pub seen : (source bytes others : Text) (own : List OwnCall) (pieces notes given
     → marks ≡ spec.marks bytes given → others ≡ source → again ≡ notes
     → look.comments.items ≡ spec.unknown_marks others again → those ≡ pieces → handed ≡ marks
     → AreDescribed source 0 (candidates_in source own those handed) look.descriptions.items
-    → look.calls.items ≡ calls_in source own those look.descriptions.items → IsLook source own look
+    → AreUnreadCalls source own those look.descriptions.items look.calls.items → IsLook source own look
 seen source bytes others own pieces notes given again those marks handed look are here noted marked there noted_too words same used
     described calls =
     let all_marks : handed ≡ spec.marks source are.all =
@@ -51,7 +51,8 @@ seen source bytes others own pieces notes given again those marks handed look ar
             all_marks
             (subst (λ ps. AreDescribed source 0 (candidates_in source own ps handed) look.descriptions.items) (same ∙ are.kept)
             described);
-        calls = calls ∙ ap (λ ps. calls_in source own ps look.descriptions.items) (same ∙ are.kept);
+        calls =
+            subst (λ ps. AreUnreadCalls source own ps look.descriptions.items look.calls.items) (same ∙ are.kept) calls;
         comments = all_words;
       },
     )

@@ -108,7 +108,7 @@ fn is_condition(text: &[u8]) -> bool
 }
 
 /// Whether a token is the name of a constant, or of a variable.
-fn names_value(source: &[u8], pieces: &[KeptToken], index: usize) -> bool
+pub fn names_value(source: &[u8], pieces: &[KeptToken], index: usize) -> bool
     ensures { result ≡ spec.names_value source.now pieces.now index }
 {
     let before = text_before(source, pieces, index, 1);

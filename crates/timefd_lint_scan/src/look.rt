@@ -4,7 +4,8 @@ ghost use Rattle.std.specs.HashSet.{contains};
 ghost use Rattle.std.specs.Prelude.{◌≡◌, ◌++◌, ◌||◌, IfOk, OnOk, nat_eq, ℕ};
 ghost use Rattle.timefd_lint_scan.specs.Candidates.{candidates_in};
 ghost use Rattle.timefd_lint_scan.specs.Found.{AllStandIn, AreDescribed, AreDescriptionsOf, AreInOrder};
-ghost use Rattle.timefd_lint_scan.specs.Looks.{AreTaken, IsLook, IsSeen};
+ghost use Rattle.timefd_lint_scan.specs.FoundUses.{IsFound};
+ghost use Rattle.timefd_lint_scan.specs.Looks.{AreTaken, AreUnread, AreUnreadCalls, IsLook};
 ghost use Rattle.timefd_lint_scan.specs.Looks as spec;
 
 use crate::alias_notes::notes_of;
@@ -12,12 +13,14 @@ use crate::aliases::Aliases;
 use crate::description::{SourceDescription, described_by};
 use crate::dialect::is;
 use crate::firsts::firsts_of;
+use crate::following::following_of;
 use crate::furthest::furthest_of;
 use crate::gathered::{Gathered, tokens_of};
 use crate::import::aliases_of;
 use crate::kept::KeptToken;
 use crate::layout::layout_of;
 use crate::marks::{LanguageMark, marks_of, unknown_marks};
+use crate::named_calls::named_calls;
 use crate::names::may_describe;
 use crate::own_call::OwnCall;
 use crate::runs::runs_of;
@@ -60,8 +63,8 @@ fn has_word(source: &[u8], pieces: &[KeptToken], word: &str) -> bool
     false
 }
 
-// Notes where a name begins that a description is used by.
-fn note(taken: &mut HashSet<usize>, call: Option<usize>) -> Result<(), AllocError>
+/// Notes where a name begins that a description is used by.
+pub fn note(taken: &mut HashSet<usize>, call: Option<usize>) -> Result<(), AllocError>
     ensures { OnOk result ((n : ℕ) → contains nat_eq taken.new n ≡ (spec.is_at call n || contains nat_eq taken.old n)) }
 {
     match call {
@@ -94,51 +97,61 @@ fn is_sure(used: Use, has_chrono: bool) -> bool
     !used.known.wants_percent || has_chrono
 }
 
-fn is_unread(
-    used: Use,
-    descriptions: &[SourceDescription],
-    taken: &HashSet<usize>,
-    has_chrono: bool,
-) -> bool
-    requires { AreTaken descriptions.now (contains nat_eq taken.now) }
-    ensures { result ≡ spec.is_unread descriptions.now has_chrono used }
+fn is_unread(used: Use, named: &HashSet<usize>, has_chrono: bool) -> bool
+    ensures { result ≡ spec.is_unread (contains nat_eq named.now) has_chrono used }
 {
     let position = used.name.start;
-    used.known.call == Some(position) && is_sure(used, has_chrono) && !taken.contains(&position)
+    used.known.call == Some(position) && is_sure(used, has_chrono) && !named.contains(&position)
 }
 
 fn push_unread(
     calls: &mut Vec<usize>,
     used: Use,
-    descriptions: &[SourceDescription],
-    taken: &HashSet<usize>,
+    named: &HashSet<usize>,
     has_chrono: bool,
 ) -> Result<(), AllocError>
-    requires { AreTaken descriptions.now (contains nat_eq taken.now) }
     ensures { OnOk result (calls.new.items
-        ≡ calls.old.items ++ spec.unread descriptions.now has_chrono used) }
+        ≡ calls.old.items ++ spec.unread (contains nat_eq named.now) has_chrono used) }
 {
-    if is_unread(used, descriptions, taken, has_chrono) {
+    if is_unread(used, named, has_chrono) {
         calls.push(used.name.start)?;
     }
     Ok(())
 }
 
-/// Where names begin that calls take, and that don't name one of these descriptions.
-fn unread_calls(
+/// Where names begin that calls take, but for those at these positions.
+fn calls_without(
     alloc: Global,
     uses: &[Use],
+    named: &HashSet<usize>,
+    has_chrono: bool,
+) -> Result<Vec<usize>, AllocError>
+    ensures { IfOk result (λ calls. calls.items ≡ spec.unread_calls (contains nat_eq named.now) has_chrono uses.now) }
+{
+    let mut calls = Vec::new(alloc);
+    for used in uses {
+        push_unread(&mut calls, *used, named, has_chrono)?;
+    }
+    Ok(calls)
+}
+
+/// Where names begin that calls take, and that don't name a text that is looked at.
+fn unread_calls(
+    alloc: Global,
+    source: &[u8],
+    pieces: &[KeptToken],
+    uses: Uses<'_>,
     descriptions: &[SourceDescription],
     has_chrono: bool,
 ) -> Result<Vec<usize>, AllocError>
-    ensures { IfOk result (λ calls. calls.items ≡ spec.unread_calls descriptions.now has_chrono uses.now) }
+    requires { IsFound source.now pieces.now uses }
+    ensures { IfOk result (λ calls. AreUnread source.now pieces.now uses.entry.list.now descriptions.now has_chrono calls.items) }
 {
     let taken = taken_by(alloc, descriptions)?;
-    let mut calls = Vec::new(alloc);
-    for used in uses {
-        push_unread(&mut calls, *used, descriptions, &taken, has_chrono)?;
-    }
-    Ok(calls)
+    let following = following_of(alloc, source, uses.list)?;
+    let lists = named_calls(alloc, source, pieces, uses, &following, &taken)?;
+    let named = named_calls(alloc, source, pieces, uses, &following, &lists)?;
+    calls_without(alloc, uses.list, &named, has_chrono)
 }
 
 /// What is seen among these tokens, with these calls of the project, and these comments that name a language.
@@ -151,8 +164,7 @@ fn seen_in(
 ) -> Result<SeenTokens, AllocError>
     ensures described { IfOk result (λ seen. AreDescribed source.now 0
         (candidates_in source.now own.now pieces.now marks.now) seen.descriptions.items) }
-    ensures calls { IfOk result (λ seen. seen.calls.items
-        ≡ spec.calls_in source.now own.now pieces.now seen.descriptions.items) }
+    ensures calls { IfOk result (λ seen. AreUnreadCalls source.now own.now pieces.now seen.descriptions.items seen.calls.items) }
 {
     let bytes = source.as_bytes();
     let layout = layout_of(alloc, bytes, pieces)?;
@@ -176,7 +188,7 @@ fn seen_in(
     };
     let descriptions = described_by(alloc, source, pieces, aliases, named, marks)?;
     let has_chrono = has_word(bytes, pieces, "chrono");
-    let calls = unread_calls(alloc, &uses, &descriptions, has_chrono)?;
+    let calls = unread_calls(alloc, bytes, pieces, named, &descriptions, has_chrono)?;
     Ok(SeenTokens {
         descriptions,
         calls,
