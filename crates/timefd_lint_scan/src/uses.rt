@@ -303,7 +303,7 @@ pub fn first_use(
 /// What the first use says about the name that a token declares.
 pub fn known_by_name(
     source: &[u8],
-    pieces: &[PlacedToken],
+    pieces: &[KeptToken],
     uses: Uses<'_>,
     declared: usize,
 ) -> Option<Known>
