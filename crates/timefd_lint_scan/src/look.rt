@@ -180,7 +180,7 @@ fn seen_in(
     })
 }
 
-/// Looks for descriptions in a source. An `Err` says that memory ran out.
+/// Looks for descriptions in a source. An `Err` says that memory ran out, or that the source has 4 GiB or more.
 pub fn looked_at(alloc: Global, source: &str) -> Result<Look, AllocError>
     ensures { IfOk result (IsLook source.now) }
 {
@@ -206,7 +206,8 @@ pub fn looked_at(alloc: Global, source: &str) -> Result<Look, AllocError>
 }
 
 /// The descriptions in a source, in order: arguments of known calls, what such a call gets by a name of the
-/// same file, and literals for which a comment names a language. An `Err` says that memory ran out.
+/// same file, and literals for which a comment names a language. An `Err` says that memory ran out, or that the
+/// source has 4 GiB or more.
 pub fn descriptions_of(alloc: Global, source: &str) -> Result<Vec<SourceDescription>, AllocError>
     ensures all { IfOk result (λ found. AreDescriptionsOf source.now found.items) }
     ensures stand { IfOk result (λ found. AllStandIn source.now found.items) }
