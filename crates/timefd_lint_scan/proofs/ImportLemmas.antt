@@ -6,6 +6,7 @@ use Rattle.std.proofs.lemmas.Slice.Eq.{bytes_eq-Decides}
 use Rattle.std.specs.Option.{option_to_list}
 use Rattle.std.specs.Prelude.{Option, Some, None, bytes_eq, codes}
 use Rattle.timefd_lint_scan.specs.declared.alias.Alias.{Alias}
+use Rattle.timefd_lint_scan.specs.declared.own_call.OwnCall.{OwnCall}
 use Rattle.timefd_lint_scan.specs.declared.piece.PlacedToken.{PlacedToken}
 use Rattle.timefd_lint_scan.specs.Aliases.{IsUntil, alias_at, aliases_in, block_end, statement_end}
 use Rattle.timefd_lint_scan.specs.Bytes.{Text}
@@ -51,15 +52,15 @@ reverse_option : (found : Option Alias) → reverse (option_to_list found) ≡ o
 reverse_option None = refl
 reverse_option (Some alias) = refl
 
-pub one_more : (source : Text) (ps : List PlacedToken) (n left : ℕ) (p : PlacedToken) (found : Option Alias) (old now : List Alias)
-    → drop n ps ≡ p ∷ drop left ps → found ≡ alias_at source p (drop left ps) → now ≡ old ++ option_to_list found
-    → reverse old ≡ aliases_in source (drop left ps) → reverse now ≡ aliases_in source (drop n ps)
-one_more source ps n left p found old now split is pushed so_far =
+pub one_more : (source : Text) (own : List OwnCall) (ps : List PlacedToken) (n left : ℕ) (p : PlacedToken) (found : Option Alias) (old now : List Alias)
+    → drop n ps ≡ p ∷ drop left ps → found ≡ alias_at source own p (drop left ps) → now ≡ old ++ option_to_list found
+    → reverse old ≡ aliases_in source own (drop left ps) → reverse now ≡ aliases_in source own (drop n ps)
+one_more source own ps n left p found old now split is pushed so_far =
     ap reverse pushed
     ∙ (reverse-append old (option_to_list found)
     ∙ (ap (λ l. l ++ reverse old) (reverse_option found)
     ∙ (ap (λ l. option_to_list found ++ l) so_far
-    ∙ (ap (λ o. option_to_list o ++ aliases_in source (drop left ps)) is ∙ ap (aliases_in source) (sym split)))))
+    ∙ (ap (λ o. option_to_list o ++ aliases_in source own (drop left ps)) is ∙ ap (aliases_in source own) (sym split)))))
 
 any_other : (ps : List PlacedToken) (n : ℕ) (d other : PlacedToken) → n < length ps → get_or ps n d ≡ get_or ps n other
 any_other ps n d other below = cc (slice_get-get_or ps n d below, slice_get-get_or ps n other below)

@@ -23,16 +23,10 @@ pub enum Call {
     Second(FormatLanguage),
     /// The first is a description of chrono if it looks like a date format: `format` is a common name.
     Format,
+    /// That with this number, counted from 0, is a description: the settings of a project say so.
+    Own(FormatLanguage, usize),
     /// None is known to be a description.
     Other,
-}
-
-/// Which argument of a call.
-#[derive(Clone, Copy)]
-pub enum Argument {
-    First,
-    Second,
-    Later,
 }
 
 /// An open bracket.
@@ -42,8 +36,8 @@ pub struct OpenBracket {
     pub opened: usize,
     /// The call whose arguments it holds.
     pub call: Call,
-    /// Which argument comes after the commas so far.
-    pub argument: Argument,
+    /// Which argument comes after the commas so far, counted from 0.
+    pub argument: usize,
     /// What is known about the value of the whole bracket.
     pub passes: Option<Known>,
     /// What is known about the expression that follows what was read so far.
@@ -235,7 +229,8 @@ fn call_named(name: &[u8]) -> Call
     }
 }
 
-fn is_turbofish(source: &[u8], pieces: &[KeptToken], opening: usize) -> bool
+/// Whether a type in brackets is between a call's name and this token: `f::<2>(`.
+pub fn is_turbofish(source: &[u8], pieces: &[KeptToken], opening: usize) -> bool
     ensures { result ≡ spec.is_turbofish source.now pieces.now opening }
 {
     is(text_before(source, pieces, opening, 3), "<")

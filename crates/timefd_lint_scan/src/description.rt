@@ -124,7 +124,7 @@ pub fn push_any(
     }
 }
 
-/// The descriptions among these tokens, with these aliases, uses of names, and comments that name a language.
+/// The descriptions among these tokens, with these aliases and calls of the project, uses of names, and comments that name a language.
 /// An `Err` says that memory ran out.
 pub fn described_by(
     alloc: Global,
@@ -137,7 +137,7 @@ pub fn described_by(
     requires found { IsFound source.now pieces.now uses }
     requires aliases { AreAliases source.now aliases }
     ensures { IfOk result (λ found. AreDescribed source.now 0
-        (candidates_by source.now pieces.now aliases.entry.list.now uses.entry.list.now marks.now) found.items) }
+        (candidates_by source.now pieces.now aliases.entry.list.now aliases.entry.own.now uses.entry.list.now marks.now) found.items) }
 {
     let mut frames = Vec::new(alloc);
     frames.push(outermost())?;

@@ -6,7 +6,8 @@ ghost use Rattle.timefd_lint_scan.specs.FoundUses.{IsFound};
 ghost use Rattle.timefd_lint_scan.specs.KeptAliases.{AreAliases};
 
 use crate::aliases::Aliases;
-use crate::calls::{Argument, Call, OpenBracket, call_of};
+use crate::call_names::call_at;
+use crate::calls::{Call, OpenBracket};
 use crate::dialect::is;
 use crate::kept::KeptToken;
 use crate::known::{Known, known_by_call};
@@ -107,7 +108,7 @@ fn is_condition(text: &[u8]) -> bool
 }
 
 /// Whether a token is the name of a constant, or of a variable.
-fn names_value(source: &[u8], pieces: &[KeptToken], index: usize) -> bool
+pub fn names_value(source: &[u8], pieces: &[KeptToken], index: usize) -> bool
     ensures { result ≡ spec.names_value source.now pieces.now index }
 {
     let before = text_before(source, pieces, index, 1);
@@ -248,7 +249,8 @@ fn passed_into(
         | Call::First(_)
         | Call::Owned(_)
         | Call::Second(_)
-        | Call::Format => None,
+        | Call::Format
+        | Call::Own(_, _) => None,
     }
 }
 
@@ -261,14 +263,14 @@ pub fn opened(
     outer: Option<OpenBracket>,
 ) -> OpenBracket
     requires { AreAliases source.now aliases }
-    ensures { result ≡ spec.opened source.now pieces.now aliases.entry.list.now index outer }
+    ensures { result ≡ spec.opened source.now pieces.now aliases.entry.list.now aliases.entry.own.now index outer }
 {
-    let call = call_of(source, pieces, aliases, index);
+    let call = call_at(source, pieces, aliases, index);
     let passes = passed_into(source, pieces, index, call, outer);
     settled(OpenBracket {
         opened: index,
         call,
-        argument: Argument::First,
+        argument: 0,
         passes,
         pending: None,
         name: None,
@@ -282,7 +284,7 @@ pub fn outermost() -> OpenBracket
     OpenBracket {
         opened: 0,
         call: Call::Other,
-        argument: Argument::First,
+        argument: 0,
         passes: None,
         pending: None,
         name: None,

@@ -6,7 +6,7 @@ ghost use Rattle.timefd_lint_scan.specs.FoundUses.{IsFound};
 ghost use Rattle.timefd_lint_scan.specs.KeptAliases.{AreAliases};
 
 use crate::aliases::Aliases;
-use crate::calls::{Argument, OpenBracket};
+use crate::calls::OpenBracket;
 use crate::dialect::is;
 use crate::flow::{entered, opened, settled};
 use crate::kept::KeptToken;
@@ -31,13 +31,10 @@ fn close(frames: &mut Vec<OpenBracket>) -> Option<OpenBracket>
     closed
 }
 
-fn next_argument(argument: Argument) -> Argument
+fn next_argument(argument: usize) -> usize
     ensures { result ≡ spec.next_argument argument }
 {
-    match argument {
-        Argument::First => Argument::Second,
-        Argument::Second | Argument::Later => Argument::Later,
-    }
+    argument.saturating_add(1)
 }
 
 fn with_comma(frame: OpenBracket) -> OpenBracket
@@ -114,7 +111,8 @@ pub fn pass(
     requires found { IsFound source.now pieces.now uses }
     requires aliases { AreAliases source.now aliases }
     ensures { OnOk result (frames.new.items
-        ≡ spec.passed source.now pieces.now aliases.entry.list.now uses.entry.list.now index frames.old.items) }
+        ≡ spec.passed source.now pieces.now aliases.entry.list.now aliases.entry.own.now uses.entry.list.now index
+        frames.old.items) }
 {
     let text = text_at(source, pieces, index);
     if is_opening(text) {

@@ -10,6 +10,7 @@ use crate::alias::{Alias, after_first, block_end};
 use crate::dialect::is;
 use crate::kept::KeptToken;
 use crate::layout::{TokenLayout, end_after};
+use crate::own_call::{OwnCall, is_of_own};
 use crate::piece::PlacedToken;
 use crate::word::{text_at, text_of, tokens_after};
 use std::alloc::{AllocError, Global};
@@ -185,15 +186,16 @@ fn parse_or_list(
 /// The alias that is declared at a token. The other tokens follow it.
 fn alias_at(
     source: &[u8],
+    own: &[OwnCall],
     piece: PlacedToken,
     after: &[KeptToken],
     until: Option<usize>,
 ) -> Option<Alias>
     requires { IsUntil source.now after.now until }
-    ensures { result ≡ spec.alias_at source.now piece after.now }
+    ensures { result ≡ spec.alias_at source.now own.now piece after.now }
 {
     let text = text_of(source, piece);
-    if !is_known(text) {
+    if !is_known(text) && !is_of_own(own, text) {
         return None;
     }
     match renamed(source, piece, after, until) {
@@ -215,16 +217,17 @@ fn push_any(aliases: &mut Vec<Alias>, alias: Option<Alias>) -> Result<(), AllocE
     }
 }
 
-/// The aliases that a source declares, in order. They are looked for from the end, since there it is known where blocks end. An `Err`
+/// The aliases that a source declares, in order: of known names, and of those of these calls of its project. They are looked for from the end, since there it is known where blocks end. An `Err`
 /// says that memory ran out.
 pub fn aliases_of(
     alloc: Global,
     source: &[u8],
+    own: &[OwnCall],
     pieces: &[KeptToken],
     layout: &TokenLayout,
 ) -> Result<Vec<Alias>, AllocError>
     requires { IsLayout source.now pieces.now layout.now }
-    ensures { IfOk result (λ aliases. aliases.items ≡ spec.aliases_in source.now pieces.now) }
+    ensures { IfOk result (λ aliases. aliases.items ≡ spec.aliases_in source.now own.now pieces.now) }
 {
     let mut aliases = Vec::new(alloc);
     let mut until = source.len();
@@ -233,7 +236,10 @@ pub fn aliases_of(
         left -= 1;
         let piece = pieces[left].placed();
         let after = tokens_after(pieces, left);
-        push_any(&mut aliases, alias_at(source, piece, after, Some(until)))?;
+        push_any(
+            &mut aliases,
+            alias_at(source, own, piece, after, Some(until)),
+        )?;
         if is(text_of(source, piece), ";") {
             until = end_after(source, pieces, layout, left);
         }

@@ -4,7 +4,7 @@
 ghost use Rattle.std.specs.Prelude.{◌≡◌, ◌+◌, nat_eq};
 ghost use Rattle.timefd_lint_scan.specs.Arguments as spec;
 
-use crate::calls::{Argument, Call, OpenBracket};
+use crate::calls::{Call, OpenBracket};
 use crate::dialect::{FormatLanguage, is, version_named};
 use crate::kept::KeptToken;
 use crate::version::VersionPosition;
@@ -119,25 +119,32 @@ fn call_position(source: &[u8], pieces: &[KeptToken], opening: usize) -> Version
     }
 }
 
+/// The language of the argument with a number; `None` for the others.
+fn dialect_at(argument: usize, number: usize, dialect: FormatLanguage) -> Option<FormatLanguage>
+    ensures { result ≡ spec.dialect_at argument number dialect }
+{
+    if argument == number {
+        Some(dialect)
+    } else {
+        None
+    }
+}
+
 /// The language of an argument that is a description.
 fn dialect_by(
     call: Call,
-    argument: Argument,
+    argument: usize,
     version: Option<FormatLanguage>,
 ) -> Option<FormatLanguage>
     ensures { result ≡ spec.dialect_by call argument version }
 {
-    match (call, argument) {
-        (Call::Macro, _) => version,
-        (Call::First(dialect), Argument::First) => Some(dialect),
-        (Call::Owned(dialect), Argument::First) => Some(dialect),
-        (Call::Second(dialect), Argument::Second) => Some(dialect),
-        (Call::Format, Argument::First) => Some(FormatLanguage::Chrono),
-        (Call::First(_), Argument::Second | Argument::Later)
-        | (Call::Owned(_), Argument::Second | Argument::Later)
-        | (Call::Second(_), Argument::First | Argument::Later)
-        | (Call::Format, Argument::Second | Argument::Later)
-        | (Call::Other, _) => None,
+    match call {
+        Call::Macro => version,
+        Call::First(dialect) | Call::Owned(dialect) => dialect_at(argument, 0, dialect),
+        Call::Second(dialect) => dialect_at(argument, 1, dialect),
+        Call::Format => dialect_at(argument, 0, FormatLanguage::Chrono),
+        Call::Own(dialect, number) => dialect_at(argument, number, dialect),
+        Call::Other => None,
     }
 }
 
@@ -194,6 +201,7 @@ fn version_position(
     match frame.call {
         Call::Macro => macro_position(source, pieces, frame.opened, index),
         Call::First(_) | Call::Owned(_) => call_position(source, pieces, frame.opened),
+        Call::Own(_, _) => VersionPosition::Call,
         Call::Second(_) | Call::Format | Call::Other => VersionPosition::Elsewhere,
     }
 }
@@ -203,7 +211,12 @@ fn wants_percent(call: Call) -> bool
 {
     match call {
         Call::Format => true,
-        Call::Macro | Call::First(_) | Call::Owned(_) | Call::Second(_) | Call::Other => false,
+        Call::Macro
+        | Call::First(_)
+        | Call::Owned(_)
+        | Call::Second(_)
+        | Call::Own(_, _)
+        | Call::Other => false,
     }
 }
 
@@ -212,7 +225,8 @@ fn items_in(call: Call) -> Items
 {
     match call {
         Call::Macro | Call::Owned(_) => Items::Taken,
-        Call::First(_) | Call::Second(_) | Call::Format | Call::Other => Items::Refused,
+        Call::First(_) | Call::Second(_) | Call::Format | Call::Own(_, _) | Call::Other =>
+            Items::Refused,
     }
 }
 
@@ -242,7 +256,7 @@ pub fn reported_in(
 
 /// What a call says about the value of an argument, however that is written. Only the call can say the
 /// version.
-pub fn known_by_call(call: Call, argument: Argument) -> Option<Known>
+pub fn known_by_call(call: Call, argument: usize) -> Option<Known>
     ensures { result ≡ spec.known_by_call call argument }
 {
     match dialect_by(call, argument, None) {

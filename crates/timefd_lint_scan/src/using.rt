@@ -156,7 +156,7 @@ fn in_calls(
 ) -> Result<Vec<Use>, AllocError>
     requires layout { IsLayout source.now pieces.now layout.now }
     requires aliases { AreAliases source.now aliases }
-    ensures { IfOk result (λ uses. uses.items ≡ spec.in_calls source.now pieces.now aliases.entry.list.now) }
+    ensures { IfOk result (λ uses. uses.items ≡ spec.in_calls source.now pieces.now aliases.entry.list.now aliases.entry.own.now) }
 {
     let mut frames = Vec::new(alloc);
     frames.push(outermost())?;
@@ -271,7 +271,7 @@ pub fn uses_of(
 ) -> Result<Vec<Use>, AllocError>
     requires layout { IsLayout source.now pieces.now layout.now }
     requires aliases { AreAliases source.now aliases }
-    ensures { IfOk result (λ uses. uses.items ≡ spec.uses_in source.now pieces.now aliases.entry.list.now) }
+    ensures { IfOk result (λ uses. uses.items ≡ spec.uses_in source.now pieces.now aliases.entry.list.now aliases.entry.own.now) }
 {
     let mut uses = in_calls(alloc, source, pieces, aliases, layout)?;
     let furthest = furthest_of(alloc, &uses)?;
