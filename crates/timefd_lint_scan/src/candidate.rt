@@ -55,7 +55,8 @@ fn is_significant(token: Token) -> bool
     }
 }
 
-/// Adds a token, if it is neither white nor a comment. An `Err` says that memory ran out.
+/// Adds a token, if it is neither white nor a comment. An `Err` says that memory ran out, or that the token
+/// can't be kept.
 pub fn keep(kept: &mut Vec<KeptToken>, piece: PlacedToken) -> Result<(), AllocError>
     ensures { OnOk result (kept.new.items ≡ kept.old.items ++ spec.kept piece) }
 {

@@ -28,7 +28,8 @@ fn keep_comment(comments: &mut Vec<PlacedToken>, piece: PlacedToken) -> Result<(
     Ok(())
 }
 
-/// The tokens of a source that are looked at. An `Err` says that memory ran out.
+/// The tokens of a source that are looked at. An `Err` says that memory ran out, or that a token can't be kept: the
+/// source has 4 GiB or more.
 #[tactic(auto, using(crate::proofs::GatheredLemmas::at_first, crate::proofs::GatheredLemmas::one_more, crate::proofs::GatheredLemmas::at_last))]
 pub fn tokens_of(alloc: Global, source: &str) -> Result<Gathered, AllocError>
     ensures { IfOk result (λ found. AreGathered source.now found.pieces.items found.comments.items) }

@@ -4,7 +4,6 @@ ghost use Rattle.std.specs.Prelude.{◌≡◌, IfOk};
 ghost use Rattle.timefd_lint_scan.specs.KeptTokens as spec;
 ghost use Rattle.timefd_lint_scan.specs.Words.{text_of};
 
-use crate::literal::cut;
 use crate::piece::PlacedToken;
 use crate::token::{Encoding, LiteralKind, Token};
 use std::alloc::AllocError;
@@ -28,7 +27,7 @@ pub enum KeptKind {
     Unclosed,
 }
 
-/// A token, and where it is in its source, in 12 bytes.
+/// A token, and where it is in its source, in 12 bytes. To whoever states something it is a `PlacedToken`.
 #[derive(Drop)]
 pub struct KeptToken {
     kind: KeptKind,
@@ -105,8 +104,8 @@ fn hash_count(token: Token) -> usize
     }
 }
 
-/// A token as it is kept. An `Err` says that it is too large for that: it ends after 4 GiB, or it has 16,777,216
-/// `#` at either end.
+/// A token as it is kept. An `Err` says that there is no room for it: it ends after 4 GiB, or has 16,777,216 `#` at
+/// either end.
 pub fn kept_token(piece: PlacedToken) -> Result<KeptToken, AllocError>
     ensures { IfOk result (λ kept. kept ≡ piece) }
 {
@@ -157,9 +156,12 @@ impl KeptToken {
     pub fn text<'a>(&self, source: &'a [u8]) -> &'a [u8]
         ensures { result.now ≡ text_of source.now self.now }
     {
-        match cut(source, self.placed()) {
-            Some(text) => text,
-            None => &[],
+        let start = self.start();
+        let end = self.end();
+        if start <= end && end <= source.len() {
+            &source[start..end]
+        } else {
+            &[]
         }
     }
 

@@ -195,7 +195,8 @@ fn seen_in(
     })
 }
 
-/// Looks for descriptions in a source, with these calls of its project. An `Err` says that memory ran out.
+/// Looks for descriptions in a source, with these calls of its project. An `Err` says that memory ran out, or that the source has
+/// 4 GiB or more.
 pub fn looked_at(alloc: Global, source: &str, own: &[OwnCall]) -> Result<Look, AllocError>
     ensures { IfOk result (IsLook source.now own.now) }
 {
@@ -221,7 +222,8 @@ pub fn looked_at(alloc: Global, source: &str, own: &[OwnCall]) -> Result<Look, A
 }
 
 /// The descriptions in a source, in order: arguments of known calls and of these calls of its project, what such a call gets by
-/// a name of the same file, and literals for which a comment names a language. An `Err` says that memory ran out.
+/// a name of the same file, and literals for which a comment names a language. An `Err` says that memory ran out, or that the
+/// source has 4 GiB or more.
 pub fn descriptions_of(
     alloc: Global,
     source: &str,
