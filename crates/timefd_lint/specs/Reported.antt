@@ -5,6 +5,7 @@ use Rattle.std.specs.Io.KnownBytes.{Appends, Keeps, IsAtEnd}
 use Rattle.std.specs.Io.Iter.{u64_saturate}
 use denote.Ref.{Bor}
 use Rattle.timefd_lang_component.specs.Tree.{Text}
+use Rattle.timefd_language.specs.declared.language.Language.{Language}
 use Rattle.timefd_lint_options.specs.declared.wording.LineLanguage.{LineLanguage}
 use Rattle.timefd_lint_warnings.specs.Dialects.Judging.{refusal_drawn, trap_drawn}
 use Rattle.timefd_lint_diagnosis.specs.declared.diagnostic.Diagnostic.{Diagnostic}
@@ -33,11 +34,16 @@ abbrev pub faults_drawn : Style → Origin → Text → List Diagnostic → Text
 faults_drawn style origin text [] = []
 faults_drawn style origin text (g ∷ further) = drawn_all style origin text g further
 
--- The message on what is wrong with a text, which is a whole with its own first line and column.
-abbrev pub IsDrawn : Reporting → Origin → Text → TextVerdict → Text → Type 0
-IsDrawn reporting origin text (verdicts.Accepted language found) message =
+-- A text is a whole, with its own first line and column.
+abbrev pub IsAcceptedDrawn : Reporting → Origin → Text → Language → Option Levels → Text → Type 0
+IsAcceptedDrawn reporting origin text language found message =
     IsTreeWithWarnings reporting origin text (record { start = 0; end = length text }) text 1 language (levels_of found)
     message
+
+-- The message on what is wrong with a text.
+abbrev pub IsDrawn : Reporting → Origin → Text → TextVerdict → Text → Type 0
+IsDrawn reporting origin text (verdicts.Accepted language found) message =
+    IsAcceptedDrawn reporting origin text language found message
 IsDrawn reporting origin text (verdicts.Faulty faults) message =
     message ≡ faults_drawn reporting.style origin text faults.items
 IsDrawn reporting origin text (verdicts.Right traps) message =

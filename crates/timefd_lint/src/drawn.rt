@@ -6,10 +6,12 @@ ghost use Rattle.timefd_lint_warnings.specs.Dialects.Judging as judging;
 
 use std::alloc::{AllocError, Global};
 use timefd_lang_dialect::Found;
+use timefd_lang_warnings::Levels;
 use timefd_lint_diagnosis::{Diagnostic, Span};
 use timefd_lint_drawing::{Origin, Style, drawn_all, none_counted};
 use timefd_lint_sources::{Reporting, TextVerdict, levels_of, tree_with_warnings};
 use timefd_lint_warnings::dialects::{refusal_drawn, trap_drawn};
+use timefd_parse::Language;
 
 /// The tree of a text, if it is asked for, and a message on all that is wrong with it. An `Err` says that memory ran out.
 pub fn drawn(
@@ -24,14 +26,7 @@ pub fn drawn(
     let style = reporting.style;
     match verdict {
         TextVerdict::Accepted(language, found) => {
-            let span = Span {
-                start: 0,
-                end: text.len(),
-            };
-            let levels = levels_of(*found);
-            tree_with_warnings(
-                alloc, reporting, origin, text, span, text, 1, *language, levels,
-            )
+            accepted_drawn(alloc, reporting, origin, text, *language, *found)
         }
         TextVerdict::Faulty(faults) => faults_drawn(alloc, style, origin, text, faults),
         TextVerdict::Right(traps) => traps_drawn(alloc, style, origin, text, traps),
@@ -40,6 +35,26 @@ pub fn drawn(
             refusal_drawn(alloc, style, origin, text, from, *part)
         }
     }
+}
+
+fn accepted_drawn(
+    alloc: Global,
+    reporting: Reporting,
+    origin: Origin<'_>,
+    text: &str,
+    language: Language,
+    found: Option<Levels>,
+) -> Result<Vec<u8>, AllocError>
+    ensures { IfOk result (λ message. spec.IsAcceptedDrawn reporting origin.entry text.now language found message.items) }
+{
+    let span = Span {
+        start: 0,
+        end: text.len(),
+    };
+    let levels = levels_of(found);
+    tree_with_warnings(
+        alloc, reporting, origin, text, span, text, 1, language, levels,
+    )
 }
 
 fn faults_drawn(

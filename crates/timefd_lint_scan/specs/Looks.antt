@@ -49,8 +49,8 @@ unread named has_chrono u = if is_unread named has_chrono u then u.name.start �
 abbrev pub unread_calls : (ℕ → Bool) → Bool → List Use → List ℕ
 unread_calls named has_chrono us = flat_map (unread named has_chrono) us
 
--- These names of calls don't name a text that is looked at. Other calls take it for a description by its name, or by that of a list that it is
--- in, over which other loops go.
+-- These calls take names of texts that aren't looked at. A text is looked at if a description is used by its name at another call
+-- (`lists`), or if a loop takes it from a list that is looked at for the variable of another loop (`named`).
 pub record AreUnread (source : Text) (ps : List PlacedToken) (us : List Use) (ds : List SourceDescription) (has_chrono : Bool)
     (calls : List ℕ) : Type 0 where
   pub taken : ℕ → Bool

@@ -233,8 +233,8 @@ fn count_before(uses: Uses<'_>, at: usize) -> usize
     low
 }
 
-/// Whether a use has the name that a token declares with `let` or `for`, and is after the declaration. If it isn't of that name, no use at its
-/// position or after it is.
+/// Whether a use has the name that a token declares with `let` or `for`, and is after the declaration. If it isn't of
+/// that name, no use at its position or after it is.
 pub fn is_past(source: &[u8], pieces: &[KeptToken], declared: usize, used: Use) -> bool
     ensures { result ≡ spec.is_past source.now pieces.now declared used }
 {

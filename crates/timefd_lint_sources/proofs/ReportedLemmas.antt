@@ -1,5 +1,5 @@
 -- What the linter reports about one description.
-use Rattle.std.proofs.Common.{ℕ, ◌≡◌, false, Option, None, List, [], ◌++◌, Result, Ok, Err, inl, inr, refl, sym, subst, ap, ◌∙◌}
+use Rattle.std.proofs.Common.{ℕ, ◌≡◌, true, false, Option, None, List, [], ◌++◌, Result, Ok, Err, inl, inr, refl, sym, subst, ap, ◌∙◌}
 use Rattle.std.specs.Prelude.{IfOk, IsUtf8}
 use Rattle.std.specs.declared.alloc.Global.{Global}
 use Rattle.std.specs.declared.vec.Vec.{Vec}
@@ -10,16 +10,18 @@ use Rattle.timefd_lint_explain.specs.Lines.{IsExplainedIf}
 use Rattle.timefd_lint_scan.specs.declared.description.SourceDescription.{SourceDescription}
 use Rattle.timefd_lang_warnings.specs.declared.levels.Levels.{Levels}
 use Rattle.timefd_lint_warnings.specs.Messages.{messages_at}
+use Rattle.timefd_lint_sources.specs.declared.reported.ItemEnd.{ItemEnd}
+use Rattle.timefd_lint_sources.specs.declared.reported.ItemEnd.TheVariants.{Allowed}
 use Rattle.timefd_lint_sources.specs.declared.reported.SourceText.{SourceText}
 use Rattle.timefd_lint_sources.specs.declared.reported.Reporting.{Reporting}
 use Rattle.timefd_lint_sources.specs.declared.reported.Reported.{Reported}
 use Rattle.timefd_lint_sources.specs.declared.verdict.TextPlace.{TextPlace}
 use Rattle.timefd_lint_sources.specs.declared.verdict.TextVerdict.{TextVerdict}
-use Rattle.timefd_lint_sources.specs.Allowed.{is_covered}
+use Rattle.timefd_lint_sources.specs.Allowed.{IsLeftOf, count_in, is_covered, left_of}
 use Rattle.timefd_lint_sources.specs.Judged.{text_of}
 use Rattle.timefd_lint_sources.specs.Reported.{IsNoTextReported, IsReported, IsReportedIf}
 use Rattle.timefd_lint_sources.specs.Verdicts.{IsVerdict, levels_of, place_of}
-use Rattle.timefd_lint_sources.specs.Whole.{IsTreeAndWarnings, IsTreeWithWarnings, column_of, literal_of, origin_of}
+use Rattle.timefd_lint_sources.specs.Whole.{IsDrawn, IsTreeAndWarnings, IsTreeWithWarnings, column_of, literal_of, origin_of}
 
 pub no_text : {E : Type 0} (reporting : Reporting) (s : SourceText) (d : SourceDescription) (done : Result Reported E)
     → ¬ IsUtf8 (text_of d) → IfOk done (λ t. IsNoTextReported reporting s d t.end t.message.items)
@@ -43,6 +45,12 @@ with_verdict reporting s d place text verdict (Ok t) utf8 same there judged repo
   ),
 )
 with_verdict reporting s d place text verdict (Err e) utf8 same there judged reported = tt
+
+-- What comments leave is reported.
+pub left_reported : (reporting : Reporting) (s : SourceText) (d : SourceDescription) (verdict left : TextVerdict)
+    (end : ItemEnd) (message : Text) → IsLeftOf s d verdict left → end ≡ Allowed (left_of (count_in verdict) left)
+    → IsDrawn reporting s d left message → IsReportedIf true reporting s d verdict end message
+left_reported reporting s d verdict left end message is ended drawn = (left, is, ended, drawn)
 
 -- The literal is at this position.
 pub at_literal : {E : Type 0} (reporting : Reporting) (s : SourceText) (d : SourceDescription) (language : Language)

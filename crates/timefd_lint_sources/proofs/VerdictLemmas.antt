@@ -1,9 +1,12 @@
 -- What is wrong with a text where it stands.
-use Rattle.std.proofs.Common.{◌≡◌, Option, Some, List, ◌∷◌, Result, subst, sym}
-use Rattle.std.specs.Prelude.{IfOk, IfSome, flat_map}
+use Rattle.std.proofs.Common.{◌≡◌, Bool, true, Option, None, Some, List, [], ◌∷◌, Result, refl, subst, sym}
+use Rattle.std.specs.Prelude.{IfOk, IfSome, flat_map, is_some}
 use Rattle.std.specs.declared.alloc.Global.{Global}
 use Rattle.std.specs.declared.vec.Vec.{Vec}
 use Rattle.timefd_lang_component.specs.Tree.{Text}
+use Rattle.timefd_lang_dialect.specs.declared.dialect.Dialect.{Dialect}
+use Rattle.timefd_lang_dialect.specs.declared.error.RefusedPart.{RefusedPart}
+use Rattle.timefd_lang_dialect.specs.declared.trapping.Found.{Found}
 use Rattle.timefd_lang_fault.specs.Faults.{fault_of}
 use Rattle.timefd_lang_warnings.specs.declared.levels.Levels.{Levels}
 use Rattle.timefd_language.specs.Grammar.{nesting_limit}
@@ -11,12 +14,17 @@ use Rattle.timefd_language.specs.declared.language.Language.{Language}
 use Rattle.timefd_lint_diagnosis.specs.declared.diagnostic.Diagnostic.{Diagnostic}
 use Rattle.timefd_lint_diagnosis.specs.Diagnoses.{IsDiagnosis}
 use Rattle.timefd_lint_diagnosis.specs.Further.{AreFurther, most_further, without}
+use Rattle.timefd_lint_scan.specs.declared.description.SourceDescription.{SourceDescription}
 use Rattle.timefd_lint_scan.specs.declared.known.Items.{Items}
+use Rattle.timefd_lint_sources.specs.declared.reported.SourceText.{SourceText}
+use Rattle.timefd_lint_sources.specs.declared.verdict.RefusedParts.{RefusedParts}
 use Rattle.timefd_lint_sources.specs.declared.verdict.TextPlace.{TextPlace}
-use Rattle.timefd_lint_sources.specs.declared.verdict.TextPlace.TheVariants.{Own}
+use Rattle.timefd_lint_sources.specs.declared.verdict.TextPlace.TheVariants.{Own, Other}
 use Rattle.timefd_lint_sources.specs.declared.verdict.TextVerdict.{TextVerdict}
-use Rattle.timefd_lint_sources.specs.declared.verdict.TextVerdict.TheVariants.{Faulty}
-use Rattle.timefd_lint_sources.specs.Verdicts.{IsVerdict, unless_item}
+use Rattle.timefd_lint_sources.specs.declared.verdict.TextVerdict.TheVariants.{Faulty, Right, Refused}
+use Rattle.timefd_lint_sources.specs.Allowed.{IsLeftOf, IsRefusalLeft, unless_allowed, unless_trap}
+use Rattle.timefd_lint_sources.specs.Search.{IsSearched}
+use Rattle.timefd_lint_sources.specs.Verdicts.{AreTrapsIf, IsVerdict, unless_item}
 use Rattle.timefd_parse.specs.Language.{FaultIn}
 
 pub in_place : {E : Type 0} (place given : TextPlace) (levels : Option Levels) (text : Text) (done : Result TextVerdict E)
@@ -43,3 +51,34 @@ are_faults language items levels text found g faults is faulty diagnosed (furthe
   },
   all,
 )
+
+-- A format of another language or library is right, or a part of it is refused.
+
+pub is_right : (dialect : Dialect) (parts : RefusedParts) (levels : Option Levels) (text : Text)
+    (found : Option RefusedPart) (is_asked : Bool) (traps : Vec Found Global) → found ≡ None
+    → IsSearched parts dialect text found → is_asked ≡ is_some levels → AreTrapsIf is_asked dialect text traps.items
+    → IsVerdict (Other dialect parts) levels text (Right traps)
+is_right dialect parts levels text found is_asked traps none searched asked are = (
+  subst (IsSearched parts dialect text) none searched,
+  subst (λ b. AreTrapsIf b dialect text traps.items) asked are,
+)
+
+pub is_refused : (dialect : Dialect) (parts : RefusedParts) (levels : Option Levels) (text : Text)
+    (found : Option RefusedPart) (part : RefusedPart) → found ≡ Some part → IsSearched parts dialect text found
+    → IsVerdict (Other dialect parts) levels text (Refused part)
+is_refused dialect parts levels text found part is searched = subst (IsSearched parts dialect text) is searched
+
+-- What comments leave.
+
+pub faulty_left : (s : SourceText) (d : SourceDescription) (faults rest : Vec Diagnostic Global)
+    → rest.items ≡ flat_map (unless_allowed s d) faults.items → IsLeftOf s d (Faulty faults) (Faulty rest)
+faulty_left s d faults rest are = (rest, refl, are)
+
+pub traps_left : (s : SourceText) (d : SourceDescription) (traps rest : Vec Found Global)
+    → rest.items ≡ flat_map (unless_trap s d) traps.items → IsLeftOf s d (Right traps) (Right rest)
+traps_left s d traps rest are = (rest, refl, are)
+
+pub refusal_allowed : (is_allowed : Bool) (part : RefusedPart) (none : Vec Found Global) → is_allowed ≡ true
+    → none.items ≡ [] → IsRefusalLeft is_allowed part (Right none)
+refusal_allowed is_allowed part none is are =
+    subst (λ b. IsRefusalLeft b part (Right none)) (sym is) (none, refl, are)

@@ -184,6 +184,7 @@ fn warnings_left(
     }
 }
 
+#[tactic(auto, using(crate::proofs::VerdictLemmas::refusal_allowed))]
 fn refusal_left(
     alloc: Global,
     source: SourceText<'_>,
@@ -200,6 +201,7 @@ fn refusal_left(
 }
 
 /// What is left of what is wrong with a description, without what comments allow. An `Err` says that memory ran out.
+#[tactic(auto, using(crate::proofs::VerdictLemmas::faulty_left, crate::proofs::VerdictLemmas::traps_left))]
 pub fn verdict_left(
     alloc: Global,
     source: SourceText<'_>,

@@ -139,6 +139,7 @@ fn is_left_out(items: Items, diagnostic: &Diagnostic) -> bool
 }
 
 // What is wrong with a format of another language or library.
+#[tactic(auto, using(crate::proofs::VerdictLemmas::is_right, crate::proofs::VerdictLemmas::is_refused))]
 fn judge_other(
     alloc: Global,
     dialect: Dialect,

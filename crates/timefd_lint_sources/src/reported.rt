@@ -174,6 +174,7 @@ fn report_whole(
 }
 
 // Reports what is left of what is wrong with a description.
+#[tactic(auto, using(crate::proofs::ReportedLemmas::left_reported))]
 fn report_left(
     alloc: Global,
     reporting: Reporting,

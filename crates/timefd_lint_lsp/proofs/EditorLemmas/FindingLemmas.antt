@@ -1,7 +1,10 @@
 -- What is reported about one description.
 use Rattle.std.proofs.Common.{ℕ, ◌≡◌, Bool, true, false, Option, List, [], ◌∷◌, ◌++◌, refl, sym, subst, inl, inr}
 use Rattle.std.specs.Prelude.{IsUtf8, OnOk, Result, Ok, Err}
+use Rattle.std.specs.declared.alloc.Global.{Global}
+use Rattle.std.specs.declared.vec.Vec.{Vec}
 use Rattle.timefd_lang_component.specs.Tree.{Text}
+use Rattle.timefd_lang_dialect.specs.declared.trapping.Found.{Found}
 use Rattle.timefd_lint_diagnosis.specs.declared.diagnostic.Diagnostic.{Diagnostic}
 use Rattle.timefd_lang_fault.specs.Codes.{code_of, name_of}
 use Rattle.timefd_lint_lsp.proofs.EditorLemmas.EachLemmas.{both_added, none_added}
@@ -10,11 +13,13 @@ use Rattle.timefd_lint_lsp.specs.declared.editor.finding.Finding.{Finding}
 use Rattle.timefd_lint_lsp.specs.declared.editor.finding.Severity.TheVariants.{Error}
 use Rattle.timefd_lint_lsp.specs.Editor.Each.{Adds, AreOf}
 use Rattle.timefd_lint_lsp.specs.Editor.Finding.{IsNote, IsOne}
+use Rattle.timefd_lint_lsp.specs.Editor.Others.{IsTrap}
 use Rattle.timefd_lint_lsp.specs.Editor.Findings.{AreBy, AreFaults, AreOn, IsFault, fault_words}
 use Rattle.timefd_lang_fault.specs.Faults.{fault_of}
 use Rattle.timefd_lint_sources.specs.declared.reported.Finder.{Finder}
 use Rattle.timefd_lint_sources.specs.declared.verdict.TextPlace.{TextPlace}
 use Rattle.timefd_lint_sources.specs.declared.verdict.TextVerdict.{TextVerdict}
+use Rattle.timefd_lint_sources.specs.declared.verdict.TextVerdict.TheVariants.{Faulty, Right}
 use Rattle.timefd_lint_sources.specs.Judged.{text_of}
 use Rattle.timefd_lint_sources.specs.Verdicts.{IsVerdict, place_of}
 use Rattle.timefd_lint_scan.specs.declared.description.SourceDescription.{SourceDescription}
@@ -48,6 +53,24 @@ with_verdict levels finder text d place description verdict before after (Ok x) 
       added,
     )
 with_verdict levels finder text d place description verdict before after (Err e) utf8 same there judged added = tt
+
+-- The faults and the traps of a verdict, which are handed on as slices.
+
+pub by_faults : {R E : Type 0} (text : Text) (d : SourceDescription) (verdict : TextVerdict)
+    (faults : Vec Diagnostic Global) (given : List Diagnostic) (before after : List Finding) (done : Result R E)
+    → verdict ≡ Faulty faults → given ≡ faults.items → OnOk done (Adds (AreFaults text d given) before after)
+    → OnOk done (Adds (AreBy text d verdict) before after)
+by_faults text d verdict faults given before after done is same added =
+    subst (λ v. OnOk done (Adds (AreBy text d v) before after)) (sym is)
+    (subst (λ l. OnOk done (Adds (AreFaults text d l) before after)) same added)
+
+pub by_traps : {R E : Type 0} (text : Text) (d : SourceDescription) (verdict : TextVerdict) (traps : Vec Found Global)
+    (given : List Found) (before after : List Finding) (done : Result R E) → verdict ≡ Right traps
+    → given ≡ traps.items → OnOk done (Adds (AreOf (IsTrap text d) given) before after)
+    → OnOk done (Adds (AreBy text d verdict) before after)
+by_traps text d verdict traps given before after done is same added =
+    subst (λ v. OnOk done (Adds (AreBy text d v) before after)) (sym is)
+    (subst (λ l. OnOk done (Adds (AreOf (IsTrap text d) l) before after)) same added)
 
 pub no_faults : (text : Text) (d : SourceDescription) (faults : List Diagnostic) (before : List Finding)
     → faults ≡ [] → Adds (AreFaults text d faults) before before

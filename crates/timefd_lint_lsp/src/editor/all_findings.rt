@@ -178,6 +178,7 @@ fn push_judged(
 }
 
 // Adds what is wrong with a description.
+#[tactic(auto, using(crate::proofs::EditorLemmas::FindingLemmas::by_faults, crate::proofs::EditorLemmas::FindingLemmas::by_traps))]
 fn push_verdict(
     alloc: Global,
     spot: DocumentSpot<'_>,

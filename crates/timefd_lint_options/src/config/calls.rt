@@ -57,6 +57,7 @@ fn alone(name: &str) -> Option<CallPath<'_>>
 }
 
 // What follows a colon at the front of a text.
+#[tactic(auto, using(crate::proofs::ConfigLemmas::CallLemmas::colon_stripped))]
 fn after_colon(text: &str) -> Option<&str>
     ensures { option_map (λ after. after.now) result ≡ spec.after_colon text.now }
 {

@@ -1,8 +1,9 @@
+use Rattle.std.proofs.Common.{rules}
 use Rattle.timefd_lint_lsp.proofs.EditorLemmas.FindingLemmas.{faults}
 use Rattle.timefd_lint_lsp.proofs.editor.faults.push_faults.Goals as goal
 
 pub returns : goal.returns
 returns c =
-    faults c.args.spot.text.now c.args.spot.description.now c.args.diagnostic.now c.args.further.now
-    c.args.found.now.items c.push_fault.new.found.items c.push_further.new.found.items c.push_further.result
+    faults c.args.spot.text.now c.args.spot.description.now c.args.faults.now _ _ c.args.found.now.items
+    c.push_fault.new.found.items c.push_further.new.found.items c.push_further.result (search rules)
     c.in_ok-push_fault.ensures c.push_further.ensures
