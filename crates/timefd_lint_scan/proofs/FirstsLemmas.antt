@@ -27,7 +27,7 @@ passed_over source ps declared (suc n) (u ∷ us) none =
     (λ i d below within. none (suc i) d (omega (arith, below)) (omega (arith, within))))
 
 -- A use of another name, or of this one.
-named : (source : Text) (ps : List PlacedToken) (declared : ℕ) (u : Use)
+pub named : (source : Text) (ps : List PlacedToken) (declared : ℕ) (u : Use)
     → (is_use_of source ps declared u ≡ false) ⊎ (text_of source u.name ≡ text_at source ps declared)
 named source ps declared u = elim (cases_Bool (bytes_eq (text_of source u.name) (text_at source ps declared))) [
   | inl same ↦ inr ((bytes_eq-Decides (text_of source u.name) (text_at source ps declared)).0 same)

@@ -16,6 +16,8 @@ pub mod SeenLemmas
 pub mod BeginLemmas
 pub mod FirstsLemmas
 pub mod RunsLemmas
+pub mod FollowingLemmas
+pub mod NamedCallLemmas
 pub mod LayoutLemmas
 pub mod TakenLemmas
 pub mod LookLemmas

@@ -8,7 +8,7 @@ use Rattle.std.specs.Prelude.{None, Some}
 use Rattle.timefd_lint_scan.specs.declared.piece.PlacedToken.{PlacedToken}
 use Rattle.timefd_lint_scan.specs.declared.uses.Use.{Use}
 use Rattle.timefd_lint_scan.specs.Bytes.{Text}
-use Rattle.timefd_lint_scan.specs.Uses.{AreNotBefore, AreRuns, AreUnused, IsPast, is_use_of, known_by_name}
+use Rattle.timefd_lint_scan.specs.Uses.{AreNotBefore, AreRuns, AreUnused, IsFirstUse, IsPast, is_use_of, known_by_name}
 use Rattle.timefd_lint_scan.proofs.FirstsLemmas.{passed_over}
 
 pub same_use : (us : List Use) (n : ℕ) (d other : Use) → n < length us → get_or us n d ≡ get_or us n other
@@ -105,3 +105,13 @@ pub none_left : (source : Text) (ps : List PlacedToken) (declared index : ℕ) (
     → AreUnused source ps declared index us → known_by_name source ps declared us ≡ None
 none_left source ps declared index us none so_far =
     sym (passed_over source ps declared index us so_far) ∙ ap (known_by_name source ps declared) (drop_all index us none)
+
+pub first_found : (source : Text) (ps : List PlacedToken) (declared index : ℕ) (other : Use) (us : List Use) → index < length us
+    → is_use_of source ps declared (get_or us index other) ≡ true → AreUnused source ps declared index us
+    → IsFirstUse source ps declared us index
+first_found source ps declared index other us below is so_far = record {
+  below = below;
+  before = so_far;
+  known = λ d.
+      found_at source ps declared index d us below (ap (is_use_of source ps declared) (same_use us index d other below) ∙ is) so_far;
+}

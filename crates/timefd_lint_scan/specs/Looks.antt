@@ -3,6 +3,7 @@ use Rattle.std.specs.Prelude.{ℕ, ◌≡◌, ◌⊎◌, Bool, true, false, not,
 use Rattle.std.specs.List.{flat_map}
 use Rattle.timefd_lint_scan.specs.declared.description.SourceDescription.{SourceDescription}
 use Rattle.timefd_lint_scan.specs.declared.look.Look.{Look}
+use Rattle.timefd_lint_scan.specs.declared.own_call.OwnCall.{OwnCall}
 use Rattle.timefd_lint_scan.specs.declared.piece.PlacedToken.{PlacedToken}
 use Rattle.timefd_lint_scan.specs.declared.uses.Use.{Use}
 use Rattle.timefd_lint_scan.specs.Aliases.{aliases_in}
@@ -10,6 +11,7 @@ use Rattle.timefd_lint_scan.specs.Bytes.{Text}
 use Rattle.timefd_lint_scan.specs.Candidates.{candidates, significant}
 use Rattle.timefd_lint_scan.specs.Found.{AreDescribed}
 use Rattle.timefd_lint_scan.specs.Marks.{unknown_marks}
+use Rattle.timefd_lint_scan.specs.NamedCalls.{AreNamed}
 use Rattle.timefd_lint_scan.specs.Names.{HasNoName}
 use Rattle.timefd_lint_scan.specs.Sources.{AreTokens}
 use Rattle.timefd_lint_scan.specs.Using.{uses_in}
@@ -37,27 +39,38 @@ pub record AreTaken (ds : List SourceDescription) (taken : ℕ → Bool) : Type 
 abbrev pub is_sure : Use → Bool → Bool
 is_sure u has_chrono = not u.known.wants_percent || has_chrono
 
-abbrev pub is_unread : List SourceDescription → Bool → Use → Bool
-is_unread ds has_chrono u =
-    is_at u.known.call u.name.start && is_sure u has_chrono && not (is_taken u.name.start ds)
+abbrev pub is_unread : (ℕ → Bool) → Bool → Use → Bool
+is_unread named has_chrono u = is_at u.known.call u.name.start && is_sure u has_chrono && not (named u.name.start)
 
-abbrev pub unread : List SourceDescription → Bool → Use → List ℕ
-unread ds has_chrono u = if is_unread ds has_chrono u then u.name.start ∷ [] else []
+abbrev pub unread : (ℕ → Bool) → Bool → Use → List ℕ
+unread named has_chrono u = if is_unread named has_chrono u then u.name.start ∷ [] else []
 
--- where names begin that calls take, and that don't name one of these descriptions
-abbrev pub unread_calls : List SourceDescription → Bool → List Use → List ℕ
-unread_calls ds has_chrono us = flat_map (unread ds has_chrono) us
+-- where names begin that calls take, but for those at these positions
+abbrev pub unread_calls : (ℕ → Bool) → Bool → List Use → List ℕ
+unread_calls named has_chrono us = flat_map (unread named has_chrono) us
+
+-- These calls take names of texts that aren't looked at. A text is looked at if a description is used by its name at another call
+-- (`lists`), or if a loop takes it from a list that is looked at for the variable of another loop (`named`).
+pub record AreUnread (source : Text) (ps : List PlacedToken) (us : List Use) (ds : List SourceDescription) (has_chrono : Bool)
+    (calls : List ℕ) : Type 0 where
+  pub taken : ℕ → Bool
+  pub by_descriptions : AreTaken ds taken
+  pub lists : ℕ → Bool
+  pub by_lists : AreNamed source ps us taken lists
+  pub named : ℕ → Bool
+  pub by_names : AreNamed source ps us lists named
+  pub unread : calls ≡ unread_calls named has_chrono us
 
 -- such names among the tokens of a source in which these descriptions are found
-abbrev pub calls_in : Text → List PlacedToken → List SourceDescription → List ℕ
-calls_in source ps ds =
-    unread_calls ds (has_word source (codes "chrono") ps) (uses_in source ps (aliases_in source ps))
+abbrev pub AreUnreadCalls : Text → List OwnCall → List PlacedToken → List SourceDescription → List ℕ → Type 0
+AreUnreadCalls source own ps ds calls =
+    AreUnread source ps (uses_in source ps (aliases_in source own ps) own) ds (has_word source (codes "chrono") ps) calls
 
--- What is seen in a source that is cut into these tokens.
-pub record IsSeen (source : Text) (all : List PlacedToken) (look : Look) : Type 0 where
+-- What is seen in a source that is cut into these tokens, with these calls of its project.
+pub record IsSeen (source : Text) (own : List OwnCall) (all : List PlacedToken) (look : Look) : Type 0 where
   pub tokens : AreTokens (length source) source all
-  pub descriptions : AreDescribed source 0 (candidates source all) look.descriptions.items
-  pub calls : look.calls.items ≡ calls_in source (significant all) look.descriptions.items
+  pub descriptions : AreDescribed source 0 (candidates source own all) look.descriptions.items
+  pub calls : AreUnreadCalls source own (significant all) look.descriptions.items look.calls.items
   pub comments : look.comments.items ≡ unknown_marks source all
 
 -- Nothing is seen.
@@ -67,5 +80,5 @@ pub record IsBlank (look : Look) : Type 0 where
   pub comments : look.comments.items ≡ []
 
 -- Nothing is seen in a source that has none of the names that descriptions come with.
-abbrev pub IsLook : Text → Look → Type 0
-IsLook source look = (HasNoName source × IsBlank look) ⊎ ((all : List PlacedToken) × IsSeen source all look)
+abbrev pub IsLook : Text → List OwnCall → Look → Type 0
+IsLook source own look = (HasNoName source own × IsBlank look) ⊎ ((all : List PlacedToken) × IsSeen source own all look)

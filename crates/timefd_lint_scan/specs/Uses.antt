@@ -88,6 +88,11 @@ abbrev pub AreUnused : Text → List PlacedToken → ℕ → ℕ → List Use �
 AreUnused source ps declared count us =
     (i : ℕ) → (d : Use) → i < count → i < length us → is_use_of source ps declared (get_or us i d) ≡ false
 
+-- Of the uses from an index on, up to another, none is of the name that a token declares.
+abbrev pub AreUnusedIn : Text → List PlacedToken → ℕ → ℕ → ℕ → List Use → Type 0
+AreUnusedIn source ps declared from to us =
+    (i : ℕ) → (d : Use) → from ≤ i → i < to → i < length us → is_use_of source ps declared (get_or us i d) ≡ false
+
 -- No use after one in the list, up to an index, is before it in the source.
 abbrev pub AreNotBefore : List Use → ℕ → ℕ → Type 0
 AreNotBefore us index end =
@@ -112,3 +117,9 @@ known_by_name source ps declared [] = None
 known_by_name source ps declared (u ∷ us) =
     if is_use_of source ps declared u then Some u.known
     else known_by_name source ps declared us
+
+-- The use at an index is the first one that is of the name that a token declares.
+pub record IsFirstUse (source : Text) (ps : List PlacedToken) (declared : ℕ) (us : List Use) (index : ℕ) : Type 0 where
+  pub below : index < length us
+  pub before : AreUnused source ps declared index us
+  pub known : (d : Use) → known_by_name source ps declared us ≡ Some (get_or us index d).known

@@ -4,6 +4,7 @@ ghost use Rattle.std.specs.Prelude.{◌≡◌, ◌++◌, IfOk, OnOk};
 ghost use Rattle.timefd_lint_scan.specs.Gathered.{AreComments, AreGathered, comment_kept};
 
 use crate::candidate::keep;
+use crate::kept::KeptToken;
 use crate::marks::is_comment;
 use crate::piece::PlacedToken;
 use crate::token::first;
@@ -13,7 +14,7 @@ use std::alloc::{AllocError, Global};
 #[derive(Drop)]
 pub struct Gathered {
     /// Those that are neither white nor comments, in order.
-    pub pieces: Vec<PlacedToken>,
+    pub pieces: Vec<KeptToken>,
     /// The comments, in order.
     pub comments: Vec<PlacedToken>,
 }
@@ -27,7 +28,8 @@ fn keep_comment(comments: &mut Vec<PlacedToken>, piece: PlacedToken) -> Result<(
     Ok(())
 }
 
-/// The tokens of a source that are looked at. An `Err` says that memory ran out.
+/// The tokens of a source that are looked at. An `Err` says that memory ran out, or that a token can't be kept: the
+/// source has 4 GiB or more.
 #[tactic(auto, using(crate::proofs::GatheredLemmas::at_first, crate::proofs::GatheredLemmas::one_more, crate::proofs::GatheredLemmas::at_last))]
 pub fn tokens_of(alloc: Global, source: &str) -> Result<Gathered, AllocError>
     ensures { IfOk result (λ found. AreGathered source.now found.pieces.items found.comments.items) }

@@ -4,7 +4,8 @@ ghost use Rattle.std.specs.HashSet.{contains};
 ghost use Rattle.std.specs.Prelude.{◌≡◌, ◌++◌, ◌||◌, IfOk, OnOk, nat_eq, ℕ};
 ghost use Rattle.timefd_lint_scan.specs.Candidates.{candidates_in};
 ghost use Rattle.timefd_lint_scan.specs.Found.{AllStandIn, AreDescribed, AreDescriptionsOf, AreInOrder};
-ghost use Rattle.timefd_lint_scan.specs.Looks.{AreTaken, IsLook, IsSeen};
+ghost use Rattle.timefd_lint_scan.specs.FoundUses.{IsFound};
+ghost use Rattle.timefd_lint_scan.specs.Looks.{AreTaken, AreUnread, AreUnreadCalls, IsLook};
 ghost use Rattle.timefd_lint_scan.specs.Looks as spec;
 
 use crate::alias_notes::notes_of;
@@ -12,13 +13,16 @@ use crate::aliases::Aliases;
 use crate::description::{SourceDescription, described_by};
 use crate::dialect::is;
 use crate::firsts::firsts_of;
+use crate::following::following_of;
 use crate::furthest::furthest_of;
 use crate::gathered::{Gathered, tokens_of};
 use crate::import::aliases_of;
+use crate::kept::KeptToken;
 use crate::layout::layout_of;
 use crate::marks::{LanguageMark, marks_of, unknown_marks};
+use crate::named_calls::named_calls;
 use crate::names::may_describe;
-use crate::piece::PlacedToken;
+use crate::own_call::OwnCall;
 use crate::runs::runs_of;
 use crate::uses::{Use, Uses};
 use crate::using::uses_of;
@@ -46,12 +50,12 @@ struct SeenTokens {
 }
 
 /// Whether a word is among these tokens.
-fn has_word(source: &[u8], pieces: &[PlacedToken], word: &str) -> bool
+fn has_word(source: &[u8], pieces: &[KeptToken], word: &str) -> bool
     ensures { result ≡ spec.has_word source.now word.now pieces.now }
 {
     let mut rest = pieces;
     'tokens: while let [piece, after @ ..] = rest {
-        if is(text_of(source, *piece), word) {
+        if is(piece.text(source), word) {
             return true;
         }
         rest = after;
@@ -59,8 +63,8 @@ fn has_word(source: &[u8], pieces: &[PlacedToken], word: &str) -> bool
     false
 }
 
-// Notes where a name begins that a description is used by.
-fn note(taken: &mut HashSet<usize>, call: Option<usize>) -> Result<(), AllocError>
+/// Notes where a name begins that a description is used by.
+pub fn note(taken: &mut HashSet<usize>, call: Option<usize>) -> Result<(), AllocError>
     ensures { OnOk result ((n : ℕ) → contains nat_eq taken.new n ≡ (spec.is_at call n || contains nat_eq taken.old n)) }
 {
     match call {
@@ -93,72 +97,83 @@ fn is_sure(used: Use, has_chrono: bool) -> bool
     !used.known.wants_percent || has_chrono
 }
 
-fn is_unread(
-    used: Use,
-    descriptions: &[SourceDescription],
-    taken: &HashSet<usize>,
-    has_chrono: bool,
-) -> bool
-    requires { AreTaken descriptions.now (contains nat_eq taken.now) }
-    ensures { result ≡ spec.is_unread descriptions.now has_chrono used }
+fn is_unread(used: Use, named: &HashSet<usize>, has_chrono: bool) -> bool
+    ensures { result ≡ spec.is_unread (contains nat_eq named.now) has_chrono used }
 {
     let position = used.name.start;
-    used.known.call == Some(position) && is_sure(used, has_chrono) && !taken.contains(&position)
+    used.known.call == Some(position) && is_sure(used, has_chrono) && !named.contains(&position)
 }
 
 fn push_unread(
     calls: &mut Vec<usize>,
     used: Use,
-    descriptions: &[SourceDescription],
-    taken: &HashSet<usize>,
+    named: &HashSet<usize>,
     has_chrono: bool,
 ) -> Result<(), AllocError>
-    requires { AreTaken descriptions.now (contains nat_eq taken.now) }
     ensures { OnOk result (calls.new.items
-        ≡ calls.old.items ++ spec.unread descriptions.now has_chrono used) }
+        ≡ calls.old.items ++ spec.unread (contains nat_eq named.now) has_chrono used) }
 {
-    if is_unread(used, descriptions, taken, has_chrono) {
+    if is_unread(used, named, has_chrono) {
         calls.push(used.name.start)?;
     }
     Ok(())
 }
 
-/// Where names begin that calls take, and that don't name one of these descriptions.
-fn unread_calls(
+/// Where names begin that calls take, but for those at these positions.
+fn calls_without(
     alloc: Global,
     uses: &[Use],
-    descriptions: &[SourceDescription],
+    named: &HashSet<usize>,
     has_chrono: bool,
 ) -> Result<Vec<usize>, AllocError>
-    ensures { IfOk result (λ calls. calls.items ≡ spec.unread_calls descriptions.now has_chrono uses.now) }
+    ensures { IfOk result (λ calls. calls.items ≡ spec.unread_calls (contains nat_eq named.now) has_chrono uses.now) }
 {
-    let taken = taken_by(alloc, descriptions)?;
     let mut calls = Vec::new(alloc);
     for used in uses {
-        push_unread(&mut calls, *used, descriptions, &taken, has_chrono)?;
+        push_unread(&mut calls, *used, named, has_chrono)?;
     }
     Ok(calls)
 }
 
-/// What is seen among these tokens, with these comments that name a language.
+/// Where names begin that calls take, and that don't name a text that is looked at.
+fn unread_calls(
+    alloc: Global,
+    source: &[u8],
+    pieces: &[KeptToken],
+    uses: Uses<'_>,
+    descriptions: &[SourceDescription],
+    has_chrono: bool,
+) -> Result<Vec<usize>, AllocError>
+    requires { IsFound source.now pieces.now uses }
+    ensures { IfOk result (λ calls. AreUnread source.now pieces.now uses.entry.list.now descriptions.now has_chrono calls.items) }
+{
+    let taken = taken_by(alloc, descriptions)?;
+    let following = following_of(alloc, source, uses.list)?;
+    let lists = named_calls(alloc, source, pieces, uses, &following, &taken)?;
+    let named = named_calls(alloc, source, pieces, uses, &following, &lists)?;
+    calls_without(alloc, uses.list, &named, has_chrono)
+}
+
+/// What is seen among these tokens, with these calls of the project, and these comments that name a language.
 fn seen_in(
     alloc: Global,
     source: &str,
-    pieces: &[PlacedToken],
+    own: &[OwnCall],
+    pieces: &[KeptToken],
     marks: &[LanguageMark],
 ) -> Result<SeenTokens, AllocError>
     ensures described { IfOk result (λ seen. AreDescribed source.now 0
-        (candidates_in source.now pieces.now marks.now) seen.descriptions.items) }
-    ensures calls { IfOk result (λ seen. seen.calls.items
-        ≡ spec.calls_in source.now pieces.now seen.descriptions.items) }
+        (candidates_in source.now own.now pieces.now marks.now) seen.descriptions.items) }
+    ensures calls { IfOk result (λ seen. AreUnreadCalls source.now own.now pieces.now seen.descriptions.items seen.calls.items) }
 {
     let bytes = source.as_bytes();
     let layout = layout_of(alloc, bytes, pieces)?;
-    let list = aliases_of(alloc, bytes, pieces, &layout)?;
+    let list = aliases_of(alloc, bytes, own, pieces, &layout)?;
     let notes = notes_of(alloc, bytes, &list)?;
     let aliases = Aliases {
         list: &list,
         notes: &notes,
+        own,
     };
     let uses = uses_of(alloc, bytes, pieces, aliases, &layout)?;
     let furthest = furthest_of(alloc, &uses)?;
@@ -173,18 +188,19 @@ fn seen_in(
     };
     let descriptions = described_by(alloc, source, pieces, aliases, named, marks)?;
     let has_chrono = has_word(bytes, pieces, "chrono");
-    let calls = unread_calls(alloc, &uses, &descriptions, has_chrono)?;
+    let calls = unread_calls(alloc, bytes, pieces, named, &descriptions, has_chrono)?;
     Ok(SeenTokens {
         descriptions,
         calls,
     })
 }
 
-/// Looks for descriptions in a source. An `Err` says that memory ran out.
-pub fn looked_at(alloc: Global, source: &str) -> Result<Look, AllocError>
-    ensures { IfOk result (IsLook source.now) }
+/// Looks for descriptions in a source, with these calls of its project. An `Err` says that memory ran out, or that the source has
+/// 4 GiB or more.
+pub fn looked_at(alloc: Global, source: &str, own: &[OwnCall]) -> Result<Look, AllocError>
+    ensures { IfOk result (IsLook source.now own.now) }
 {
-    if !may_describe(source.as_bytes()) {
+    if !may_describe(source.as_bytes(), own) {
         return Ok(Look {
             descriptions: Vec::new(alloc),
             calls: Vec::new(alloc),
@@ -197,7 +213,7 @@ pub fn looked_at(alloc: Global, source: &str) -> Result<Look, AllocError>
     let SeenTokens {
         descriptions,
         calls,
-    } = seen_in(alloc, source, &pieces, &marks)?;
+    } = seen_in(alloc, source, own, &pieces, &marks)?;
     Ok(Look {
         descriptions,
         calls,
@@ -205,13 +221,18 @@ pub fn looked_at(alloc: Global, source: &str) -> Result<Look, AllocError>
     })
 }
 
-/// The descriptions in a source, in order: arguments of known calls, what such a call gets by a name of the
-/// same file, and literals for which a comment names a language. An `Err` says that memory ran out.
-pub fn descriptions_of(alloc: Global, source: &str) -> Result<Vec<SourceDescription>, AllocError>
-    ensures all { IfOk result (λ found. AreDescriptionsOf source.now found.items) }
+/// The descriptions in a source, in order: arguments of known calls and of these calls of its project, what such a call gets by
+/// a name of the same file, and literals for which a comment names a language. An `Err` says that memory ran out, or that the
+/// source has 4 GiB or more.
+pub fn descriptions_of(
+    alloc: Global,
+    source: &str,
+    own: &[OwnCall],
+) -> Result<Vec<SourceDescription>, AllocError>
+    ensures all { IfOk result (λ found. AreDescriptionsOf source.now own.now found.items) }
     ensures stand { IfOk result (λ found. AllStandIn source.now found.items) }
     ensures in_order { IfOk result (λ found. AreInOrder 0 found.items) }
 {
-    let seen = looked_at(alloc, source)?;
+    let seen = looked_at(alloc, source, own)?;
     Ok(seen.descriptions)
 }

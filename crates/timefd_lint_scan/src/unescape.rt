@@ -29,8 +29,8 @@ pub fn unescape(
     requires { length body.now ≤ end }
     ensures { IfOk result (λ answer. placed_any answer ≡ unescaped (length body.now) kind end body.now) }
 {
-    let mut text = Vec::new(alloc);
-    let mut positions = Vec::new(alloc);
+    let mut text = Vec::with_capacity(alloc, body.len())?;
+    let mut positions = Vec::with_capacity(alloc, body.len())?;
     let mut rest = body;
     'parts: while let [byte, after @ ..] = rest {
         let Some(next) = part_of(kind, *byte, after) else {

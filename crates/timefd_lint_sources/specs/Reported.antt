@@ -67,7 +67,7 @@ pub record AreReportedAs (reporting : Reporting) (s : SourceText) (ds : List Sou
 
 -- A description is a literal of a Rust source, or the value of a key, in the key's language.
 abbrev pub IsFoundBy : Finder → Text → SourceDescription → Type 0
-IsFoundBy Rust source d = StandsIn source d
+IsFoundBy (Rust calls) source d = StandsIn source d
 IsFoundBy (Keys format names) source d = keys.IsValue format source names.now d
 
 abbrev pub IsFound : SourceText → SourceDescription → Type 0
@@ -78,7 +78,7 @@ AllFound s ds = All (IsFound s) ds
 
 -- They are all that a Rust source has, or all values of its keys that are looked at.
 abbrev pub AreAllBy : Finder → Text → List SourceDescription → Type 0
-AreAllBy Rust source ds = AreDescriptionsOf source ds
+AreAllBy (Rust calls) source ds = AreDescriptionsOf source calls.now ds
 AreAllBy (Keys format names) source ds = keys.AreAllValues format source names.now ds
 
 abbrev pub AreAllOf : SourceText → List SourceDescription → Type 0

@@ -29,7 +29,7 @@ use Rattle.timefd_lint_sources.specs.Search.{IsRefusedFirst, IsRight}
 use Rattle.timefd_parse.specs.Language.{SpellsIn}
 
 abbrev pub refused_parts : Finder → RefusedParts
-refused_parts Rust = Unknown
+refused_parts (Rust calls) = Unknown
 refused_parts (Keys format names) = Unwritable
 
 abbrev pub place_in : Option Dialect → Finder → SourceDescription → TextPlace

@@ -18,8 +18,8 @@ use std::alloc::{AllocError, Global};
 use std::str;
 use timefd_lang_warnings::Levels;
 use timefd_lint_drawing::{Counter, Origin, Style, counted, note};
-use timefd_lint_scan::SourceDescription;
 use timefd_lint_scan::keys::{DescriptionKey, FileFormat};
+use timefd_lint_scan::{OwnCall, SourceDescription};
 
 /// The number of a source's first line.
 pub const FIRST_LINE: u64 = 1;
@@ -40,8 +40,8 @@ pub struct Reporting {
 /// How the descriptions in a source are found.
 #[derive(Clone, Copy)]
 pub enum Finder<'a> {
-    /// As string literals in Rust.
-    Rust,
+    /// As string literals in Rust, with these calls of the project.
+    Rust(&'a [OwnCall]),
     /// As strings of these keys, in a file of this format.
     Keys(FileFormat, &'a [DescriptionKey<'a>]),
 }

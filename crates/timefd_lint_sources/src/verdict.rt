@@ -58,7 +58,7 @@ fn refused_parts(finder: Finder<'_>) -> RefusedParts
     ensures { result ≡ spec.refused_parts finder.entry }
 {
     match finder {
-        Finder::Rust => RefusedParts::Unknown,
+        Finder::Rust(_) => RefusedParts::Unknown,
         Finder::Keys(_, _) => RefusedParts::Unwritable,
     }
 }
