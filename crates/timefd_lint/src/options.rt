@@ -1,6 +1,6 @@
 //! What a run does.
 
-ghost use Rattle.std.specs.Prelude.{◌≡◌, length, max, if◌then◌else◌, is_none, Some, None};
+ghost use Rattle.std.specs.Prelude.{◌≡◌, [], length, max, if◌then◌else◌, is_none, Some, None};
 ghost use Rattle.timefd_lint.specs.Rewriting.{rewriting_of};
 
 use crate::rewriting::rewriting_of;
@@ -38,6 +38,22 @@ impl RunOptions<'_> {
         ensures { result ≡ max (length self.entry.files.now) 1 }
     {
         self.files.len().max(1)
+    }
+}
+
+impl<'a> RunOptions<'a> {
+    /// The same without calls of the project.
+    pub fn without_calls(self) -> RunOptions<'a>
+        ensures language { result.language ≡ self.entry.language }
+        ensures reporting { result.reporting ≡ self.entry.reporting }
+        ensures comment { result.comment ≡ self.entry.comment }
+        ensures whole { result.is_whole ≡ self.entry.is_whole }
+        ensures source { result.is_source ≡ self.entry.is_source }
+        ensures keys { result.keys.now ≡ self.entry.keys.now }
+        ensures calls { result.calls.now ≡ [] }
+        ensures files { result.files.now ≡ self.entry.files.now }
+    {
+        RunOptions { calls: &[], ..self }
     }
 }
 

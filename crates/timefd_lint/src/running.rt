@@ -104,10 +104,12 @@ fn rewrite_parts<W: Sink>(
         return Ok(LintTally::new());
     };
     let files = all_files(rt.alloc(), parts)?;
-    let mut options = first.options(is_colored, &files);
-    if !others.is_empty() {
-        options.calls = &[];
-    }
+    let options = first.options(is_colored, &files);
+    let options = if others.is_empty() {
+        options
+    } else {
+        options.without_calls()
+    };
     let mut store = rt;
     let mut errors = errors(rt);
     rewrite_files(
