@@ -78,16 +78,16 @@ no_faults text d faults before none =
     none_added (AreFaults text d faults) before (subst (λ l. AreFaults text d l []) (sym none) refl)
 
 pub faults : {R E : Type 0} (text : Text) (d : SourceDescription) (all : List Diagnostic) (g : Diagnostic)
-    (further : List Diagnostic) (before middle after : List Finding) (done : Result R E) → all ≡ g ∷ further
+    (further : List Diagnostic) (before middle after : List Finding) (done : Result R E)
     → Adds (IsFault text d false g) before middle
-    → OnOk done (Adds (AreOf (IsFault text d true) further) middle after)
+    → OnOk done (Adds (AreOf (IsFault text d true) further) middle after) → all ≡ g ∷ further
     → OnOk done (Adds (AreFaults text d all) before after)
-faults text d all g further before middle after (Ok x) is first others =
+faults text d all g further before middle after (Ok x) first others is =
     both_added (IsFault text d false g) (AreOf (IsFault text d true) further) (AreFaults text d all)
     before middle after
     (λ one rest is_one are. subst (λ l. AreFaults text d l (one ++ rest)) (sym is) (one, rest, is_one, are, refl))
     first others
-faults text d all g further before middle after (Err e) is first others = tt
+faults text d all g further before middle after (Err e) first others is = tt
 
 pub at_positions : {R E : Type 0} (text : Text) (d : SourceDescription) (further : Bool) (g : Diagnostic)
     (from to : ℕ) (name words : Text) (before after : List Finding) (done : Result R E)
