@@ -5,6 +5,7 @@ use Rattle.std.specs.declared.alloc.Global.{Global}
 use Rattle.std.specs.declared.vec.Vec.{Vec}
 use Rattle.timefd_lang_component.specs.Tree.{Text}
 use Rattle.timefd_lang_dialect.specs.declared.trapping.Found.{Found}
+use Rattle.timefd_language.specs.declared.language.Language.{Language}
 use Rattle.timefd_lint_diagnosis.specs.declared.diagnostic.Diagnostic.{Diagnostic}
 use Rattle.timefd_lang_fault.specs.Codes.{code_of, name_of}
 use Rattle.timefd_lint_lsp.proofs.EditorLemmas.EachLemmas.{both_added, none_added}
@@ -12,16 +13,16 @@ use Rattle.timefd_lint_lsp.proofs.EditorLemmas.WarningLemmas.{in_words}
 use Rattle.timefd_lint_lsp.specs.declared.editor.finding.Finding.{Finding}
 use Rattle.timefd_lint_lsp.specs.declared.editor.finding.Severity.TheVariants.{Error}
 use Rattle.timefd_lint_lsp.specs.Editor.Each.{Adds, AreOf}
-use Rattle.timefd_lint_lsp.specs.Editor.Finding.{IsNote, IsOne}
+use Rattle.timefd_lint_lsp.specs.Editor.Finding.{AreWarnings, IsNote, IsOne}
 use Rattle.timefd_lint_lsp.specs.Editor.Others.{IsTrap}
 use Rattle.timefd_lint_lsp.specs.Editor.Findings.{AreBy, AreFaults, AreOn, IsFault, fault_words}
 use Rattle.timefd_lang_fault.specs.Faults.{fault_of}
 use Rattle.timefd_lint_sources.specs.declared.reported.Finder.{Finder}
 use Rattle.timefd_lint_sources.specs.declared.verdict.TextPlace.{TextPlace}
 use Rattle.timefd_lint_sources.specs.declared.verdict.TextVerdict.{TextVerdict}
-use Rattle.timefd_lint_sources.specs.declared.verdict.TextVerdict.TheVariants.{Faulty, Right}
+use Rattle.timefd_lint_sources.specs.declared.verdict.TextVerdict.TheVariants.{Accepted, Faulty, Right}
 use Rattle.timefd_lint_sources.specs.Judged.{text_of}
-use Rattle.timefd_lint_sources.specs.Verdicts.{IsVerdict, place_of}
+use Rattle.timefd_lint_sources.specs.Verdicts.{IsVerdict, levels_of, place_of}
 use Rattle.timefd_lint_scan.specs.declared.description.SourceDescription.{SourceDescription}
 use Rattle.timefd_lint_scan.specs.Found.{index_in_source}
 use Rattle.timefd_lang_warnings.specs.declared.levels.Levels.{Levels}
@@ -54,7 +55,15 @@ with_verdict levels finder text d place description verdict before after (Ok x) 
     )
 with_verdict levels finder text d place description verdict before after (Err e) utf8 same there judged added = tt
 
--- The faults and the traps of a verdict, which are handed on as slices.
+-- What a verdict has is handed on as levels and slices.
+
+pub by_warnings : {R E : Type 0} (text : Text) (d : SourceDescription) (verdict : TextVerdict) (language : Language)
+    (warned : Option Levels) (given : Levels) (before after : List Finding) (done : Result R E)
+    → verdict ≡ Accepted language warned → given ≡ levels_of warned
+    → OnOk done (Adds (AreWarnings text d given) before after) → OnOk done (Adds (AreBy text d verdict) before after)
+by_warnings text d verdict language warned given before after done is same added =
+    subst (λ v. OnOk done (Adds (AreBy text d v) before after)) (sym is)
+    (subst (λ l. OnOk done (Adds (AreWarnings text d l) before after)) same added)
 
 pub by_faults : {R E : Type 0} (text : Text) (d : SourceDescription) (verdict : TextVerdict)
     (faults : Vec Diagnostic Global) (given : List Diagnostic) (before after : List Finding) (done : Result R E)

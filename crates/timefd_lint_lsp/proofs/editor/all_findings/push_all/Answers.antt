@@ -1,5 +1,5 @@
 use Rattle.std.proofs.Common.{rules, arith}
-use Rattle.timefd_lint_lsp.proofs.EditorLemmas.EachLemmas.{one_more}
+use Rattle.timefd_lint_lsp.proofs.EditorLemmas.EachLemmas.{at_last, one_more}
 use Rattle.timefd_lint_lsp.specs.Editor.Findings.{AreLeftOn}
 use Rattle.timefd_lint_lsp.proofs.editor.all_findings.push_all.Goals as goal
 
@@ -12,3 +12,9 @@ loop-description-preserved c = record {
       (first_of (search rules, omega (arith, c.loop-description-test.true)))
       c.description-item.is c.loop-description.invariant.reported c.in_ok-push_left.ensures;
 }
+
+pub returns : goal.returns
+returns c =
+    at_last (AreLeftOn c.args.levels c.args.source) c.args.descriptions.now c.loop-description.description-index
+    c.args.found.now.items c.loop-description.found.items
+    (first_of (search rules, omega (arith, c.loop-description-test.false))) c.loop-description.invariant.reported
