@@ -1,5 +1,5 @@
 -- What is reported about one description.
-use Rattle.std.proofs.Common.{ℕ, ◌≡◌, Bool, true, false, Option, List, [], ◌∷◌, ◌++◌, refl, sym, subst, inl, inr}
+use Rattle.std.proofs.Common.{ℕ, ◌≡◌, ◌≤◌, ◌-◌, ◌∙◌, ap, arith, drop, get_or, length, take, take_all, Bool, true, false, Option, List, [], ◌∷◌, ◌++◌, refl, sym, subst, inl, inr}
 use Rattle.std.specs.Prelude.{IsUtf8, OnOk, Result, Ok, Err}
 use Rattle.std.specs.declared.alloc.Global.{Global}
 use Rattle.std.specs.declared.vec.Vec.{Vec}
@@ -86,17 +86,24 @@ pub no_faults : (text : Text) (d : SourceDescription) (faults : List Diagnostic)
 no_faults text d faults before none =
     none_added (AreFaults text d faults) before (subst (λ l. AreFaults text d l []) (sym none) refl)
 
+from_first : (all : List Diagnostic) (g : Diagnostic) → 1 ≤ length all → g ≡ get_or all 0 g
+    → all ≡ g ∷ take (length all - 1) (drop 1 all)
+from_first [] g some is = absurd (omega (arith, some))
+from_first (x ∷ xs) g some is =
+    sym (ap (λ y. y ∷ take (length (x ∷ xs) - 1) xs) is
+    ∙ ap (λ t. x ∷ t) (take_all (length (x ∷ xs) - 1) xs (omega arith)))
+
 pub faults : {R E : Type 0} (text : Text) (d : SourceDescription) (all : List Diagnostic) (g : Diagnostic)
-    (further : List Diagnostic) (before middle after : List Finding) (done : Result R E)
+    (before middle after : List Finding) (done : Result R E) → 1 ≤ length all → g ≡ get_or all 0 g
     → Adds (IsFault text d false g) before middle
-    → OnOk done (Adds (AreOf (IsFault text d true) further) middle after) → all ≡ g ∷ further
+    → OnOk done (Adds (AreOf (IsFault text d true) (take (length all - 1) (drop 1 all))) middle after)
     → OnOk done (Adds (AreFaults text d all) before after)
-faults text d all g further before middle after (Ok x) first others is =
-    both_added (IsFault text d false g) (AreOf (IsFault text d true) further) (AreFaults text d all)
-    before middle after
-    (λ one rest is_one are. subst (λ l. AreFaults text d l (one ++ rest)) (sym is) (one, rest, is_one, are, refl))
-    first others
-faults text d all g further before middle after (Err e) first others is = tt
+faults text d all g before middle after (Ok x) some item first others =
+    both_added (IsFault text d false g) (AreOf (IsFault text d true) (take (length all - 1) (drop 1 all)))
+    (AreFaults text d all) before middle after
+    (λ one rest is_one are. subst (λ l. AreFaults text d l (one ++ rest)) (sym (from_first all g some item))
+    (one, rest, is_one, are, refl)) first others
+faults text d all g before middle after (Err e) some item first others = tt
 
 pub at_positions : {R E : Type 0} (text : Text) (d : SourceDescription) (further : Bool) (g : Diagnostic)
     (from to : ℕ) (name words : Text) (before after : List Finding) (done : Result R E)
