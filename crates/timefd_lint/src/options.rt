@@ -42,7 +42,7 @@ impl RunOptions<'_> {
 }
 
 impl<'a> RunOptions<'a> {
-    /// The same without calls of the project.
+    /// These options without the calls of the project.
     pub fn without_calls(self) -> RunOptions<'a>
         ensures language { result.language ≡ self.entry.language }
         ensures reporting { result.reporting ≡ self.entry.reporting }
