@@ -8,8 +8,8 @@ use Rattle.timefd_lint_drawing.specs.declared.draw.Style.{Style}
 use Rattle.timefd_lint_drawing.specs.declared.position.Origin.{Origin}
 use Rattle.timefd_lint_sources.specs.declared.reported.Reporting.{Reporting}
 use Rattle.timefd_lint_sources.specs.declared.verdict.TextPlace.{TextPlace}
-use Rattle.timefd_lint_sources.specs.declared.verdict.TextVerdict.{TextVerdict}
-use Rattle.timefd_lint_sources.specs.declared.verdict.TextVerdict.TheVariants as verdicts
+use Rattle.timefd_lint_sources.specs.declared.verdict.TextJudgement.{TextJudgement}
+use Rattle.timefd_lint_sources.specs.declared.verdict.TextJudgement.TheVariants as verdicts
 use Rattle.timefd_lint_sources.specs.Verdicts.{IsVerdict}
 use Rattle.timefd_lint_sources.specs.Whole.{no_text_note}
 use Rattle.timefd_lint.specs.declared.line.LintError.{LintError}
@@ -57,7 +57,7 @@ no_text_said language reporting origin bytes before after (Err e) is written = t
 
 -- A text that is UTF-8 is judged.
 
-ended_so : (language : LineLanguage) (reporting : Reporting) (text : Text) (verdict : TextVerdict) → IsUtf8 text
+ended_so : (language : LineLanguage) (reporting : Reporting) (text : Text) (verdict : TextJudgement) → IsUtf8 text
     → IsVerdict (place_of language) reporting.levels text verdict → IsEndOf language reporting text (end_of verdict)
 ended_so language reporting text (verdicts.Accepted by found) utf8 judged =
     (utf8, (verdicts.Accepted by found, record { judged = judged; ends = refl }))
@@ -68,14 +68,14 @@ ended_so language reporting text (verdicts.Right traps) utf8 judged =
 ended_so language reporting text (verdicts.Refused part) utf8 judged =
     (utf8, (verdicts.Refused part, record { judged = judged; ends = refl }))
 
-pub ended : (language : LineLanguage) (reporting : Reporting) (place : TextPlace) (text : Text) (verdict : TextVerdict)
+pub ended : (language : LineLanguage) (reporting : Reporting) (place : TextPlace) (text : Text) (verdict : TextJudgement)
     (end : TextEnd) → IsUtf8 text → place ≡ place_of language → IsVerdict place reporting.levels text verdict
     → end ≡ end_of verdict → IsEndOf language reporting text end
 ended language reporting place text verdict end utf8 there judged is =
     subst (IsEndOf language reporting text) (sym is) (ended_so language reporting text verdict utf8
     (subst (λ p. IsVerdict p reporting.levels text verdict) there judged))
 
-said_so : (language : LineLanguage) (reporting : Reporting) (origin : Origin) (text : Text) (verdict : TextVerdict)
+said_so : (language : LineLanguage) (reporting : Reporting) (origin : Origin) (text : Text) (verdict : TextJudgement)
     (message : Text) → IsVerdict (place_of language) reporting.levels text verdict
     → IsDrawn reporting origin text verdict message → IsMessageOn language reporting origin text (end_of verdict) message
 said_so language reporting origin text (verdicts.Accepted by found) message judged drawn =
@@ -88,7 +88,7 @@ said_so language reporting origin text (verdicts.Refused part) message judged dr
     (verdicts.Refused part, record { judged = judged; ends = refl }, drawn)
 
 pub said : (language : LineLanguage) (reporting : Reporting) (origin : Origin) (place : TextPlace) (text : Text)
-    (verdict : TextVerdict) (message bytes : Text) (before after : Option Text) (end : TextEnd)
+    (verdict : TextJudgement) (message bytes : Text) (before after : Option Text) (end : TextEnd)
     → place ≡ place_of language → IsVerdict place reporting.levels text verdict
     → IsDrawn reporting origin text verdict message → bytes ≡ message → Appends before after bytes
     → end ≡ end_of verdict → Says language reporting origin text end before after

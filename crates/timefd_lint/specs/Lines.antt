@@ -10,8 +10,8 @@ use Rattle.timefd_lint_sources.specs.declared.reported.Reporting.{Reporting}
 use Rattle.timefd_lint_sources.specs.declared.verdict.RefusedParts.TheVariants.{Unwritable}
 use Rattle.timefd_lint_sources.specs.declared.verdict.TextPlace.{TextPlace}
 use Rattle.timefd_lint_sources.specs.declared.verdict.TextPlace.TheVariants as places
-use Rattle.timefd_lint_sources.specs.declared.verdict.TextVerdict.{TextVerdict}
-use Rattle.timefd_lint_sources.specs.declared.verdict.TextVerdict.TheVariants as verdicts
+use Rattle.timefd_lint_sources.specs.declared.verdict.TextJudgement.{TextJudgement}
+use Rattle.timefd_lint_sources.specs.declared.verdict.TextJudgement.TheVariants as verdicts
 use Rattle.timefd_lint_sources.specs.Verdicts.{IsVerdict, levels_of}
 use Rattle.timefd_lint.specs.declared.line.TextEnd.{TextEnd}
 use Rattle.timefd_lint.specs.declared.line.TextEnd.TheVariants.{PassedOver, Accepted, Converted, Refused, NotText, Allowed, Failed, UnreadCall, UnreadValue, WrongComment}
@@ -23,21 +23,21 @@ place_of (Own language) = places.Own language Items.Refused
 place_of (Other dialect) = places.Other dialect Unwritable
 
 -- how the check of a text ends
-abbrev pub end_of : TextVerdict → TextEnd
+abbrev pub end_of : TextJudgement → TextEnd
 end_of (verdicts.Accepted language found) = Accepted (levels_of found)
 end_of (verdicts.Faulty faults) = Refused
 end_of (verdicts.Right traps) = Converted (length traps.items)
 end_of (verdicts.Refused part) = Refused
 
 -- This is what is wrong with a text in its language, and so its check ends.
-pub record IsJudged (language : LineLanguage) (reporting : Reporting) (text : Text) (end : TextEnd) (verdict : TextVerdict)
+pub record IsJudged (language : LineLanguage) (reporting : Reporting) (text : Text) (end : TextEnd) (verdict : TextJudgement)
     : Type 0 where
   pub judged : IsVerdict (place_of language) reporting.levels text verdict
   pub ends : end ≡ end_of verdict
 
 abbrev pub IsEndBy : LineLanguage → Reporting → Text → TextEnd → Type 0
 IsEndBy language reporting text end =
-    IsUtf8 text × ((verdict : TextVerdict) × IsJudged language reporting text end verdict)
+    IsUtf8 text × ((verdict : TextJudgement) × IsJudged language reporting text end verdict)
 
 -- A text is accepted, converted or refused by its language. Otherwise it isn't UTF-8.
 abbrev pub IsEndOf : LineLanguage → Reporting → Text → TextEnd → Type 0

@@ -20,8 +20,8 @@ use Rattle.timefd_lang_warnings.specs.declared.levels.Level.TheVariants.{Warned,
 use Rattle.timefd_lang_warnings.specs.declared.levels.Levels.{Levels}
 use Rattle.timefd_lang_warnings.specs.Levels.{count as warning_count}
 use Rattle.timefd_lint_sources.specs.declared.reported.Reporting.{Reporting}
-use Rattle.timefd_lint_sources.specs.declared.verdict.TextVerdict.{TextVerdict}
-use Rattle.timefd_lint_sources.specs.declared.verdict.TextVerdict.TheVariants as verdicts
+use Rattle.timefd_lint_sources.specs.declared.verdict.TextJudgement.{TextJudgement}
+use Rattle.timefd_lint_sources.specs.declared.verdict.TextJudgement.TheVariants as verdicts
 use Rattle.timefd_lint_sources.specs.Verdicts.{levels_of}
 use Rattle.timefd_lint_sources.specs.Whole.{IsTreeWithWarnings, no_text_note}
 use Rattle.timefd_lint_rewrite.specs.Lines.{AreLinesOf, IsNextLine, without_newline}
@@ -41,7 +41,7 @@ IsAcceptedDrawn reporting origin text language found message =
     message
 
 -- The message on what is wrong with a text.
-abbrev pub IsDrawn : Reporting → Origin → Text → TextVerdict → Text → Type 0
+abbrev pub IsDrawn : Reporting → Origin → Text → TextJudgement → Text → Type 0
 IsDrawn reporting origin text (verdicts.Accepted language found) message =
     IsAcceptedDrawn reporting origin text language found message
 IsDrawn reporting origin text (verdicts.Faulty faults) message =
@@ -57,7 +57,7 @@ IsFailureNote style file message = (failure : Failure) × (message ≡ note_of s
 
 -- The message on a text with this end.
 abbrev pub IsMessageBy : LineLanguage → Reporting → Origin → Text → TextEnd → Text → Type 0
-IsMessageBy language reporting origin text end message = (verdict : TextVerdict)
+IsMessageBy language reporting origin text end message = (verdict : TextJudgement)
     × IsJudged language reporting text end verdict × IsDrawn reporting origin text verdict message
 
 -- The message on a text. A text that is passed over has none.

@@ -9,7 +9,7 @@ use timefd_lang_dialect::Found;
 use timefd_lang_warnings::Levels;
 use timefd_lint_diagnosis::{Diagnostic, Span};
 use timefd_lint_drawing::{Origin, Style, drawn_all, none_counted};
-use timefd_lint_sources::{Reporting, TextVerdict, levels_of, tree_with_warnings};
+use timefd_lint_sources::{Reporting, TextJudgement, levels_of, tree_with_warnings};
 use timefd_lint_warnings::dialects::{refusal_drawn, trap_drawn};
 use timefd_parse::Language;
 
@@ -19,18 +19,18 @@ pub fn drawn(
     reporting: Reporting,
     origin: Origin<'_>,
     text: &str,
-    verdict: &TextVerdict,
+    verdict: &TextJudgement,
 ) -> Result<Vec<u8>, AllocError>
     ensures { IfOk result (λ message. spec.IsDrawn reporting origin.entry text.now verdict.now message.items) }
 {
     let style = reporting.style;
     match verdict {
-        TextVerdict::Accepted(language, found) => {
+        TextJudgement::Accepted(language, found) => {
             accepted_drawn(alloc, reporting, origin, text, *language, *found)
         }
-        TextVerdict::Faulty(faults) => faults_drawn(alloc, style, origin, text, faults),
-        TextVerdict::Right(traps) => traps_drawn(alloc, style, origin, text, traps),
-        TextVerdict::Refused(part) => {
+        TextJudgement::Faulty(faults) => faults_drawn(alloc, style, origin, text, faults),
+        TextJudgement::Right(traps) => traps_drawn(alloc, style, origin, text, traps),
+        TextJudgement::Refused(part) => {
             let from = none_counted(origin.line);
             refusal_drawn(alloc, style, origin, text, from, *part)
         }

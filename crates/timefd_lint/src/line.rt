@@ -19,7 +19,7 @@ use timefd_lint_drawing::{Origin, note};
 use timefd_lint_options::LineLanguage;
 use timefd_lint_rewrite::is_passed_over;
 use timefd_lint_scan::Items;
-use timefd_lint_sources::{Left, RefusedParts, TextPlace, TextVerdict, judge, levels_of};
+use timefd_lint_sources::{Left, RefusedParts, TextJudgement, TextPlace, judge, levels_of};
 
 /// Why a run ends before its last text.
 #[derive(Clone, Copy)]
@@ -139,13 +139,13 @@ fn place_of(language: LineLanguage) -> TextPlace
 }
 
 // How the check of a text ends.
-fn end_of(verdict: &TextVerdict) -> TextEnd
+fn end_of(verdict: &TextJudgement) -> TextEnd
     ensures { result ≡ spec.end_of verdict.now }
 {
     match verdict {
-        TextVerdict::Accepted(_, found) => TextEnd::Accepted(levels_of(*found)),
-        TextVerdict::Right(traps) => TextEnd::Converted(traps.len() as u64),
-        TextVerdict::Faulty(_) | TextVerdict::Refused(_) => TextEnd::Refused,
+        TextJudgement::Accepted(_, found) => TextEnd::Accepted(levels_of(*found)),
+        TextJudgement::Right(traps) => TextEnd::Converted(traps.len() as u64),
+        TextJudgement::Faulty(_) | TextJudgement::Refused(_) => TextEnd::Refused,
     }
 }
 

@@ -1,7 +1,7 @@
 -- Where uses of the same name follow each other in a list.
 use Rattle.std.specs.Prelude.{ℕ, ◌≡◌, ◌≢◌, ◌≤◌, ◌<◌, List, get_or, length, nat_eq, Option, Some}
 use Rattle.std.specs.HashMap.{get}
-use Rattle.timefd_lint_scan.specs.declared.following.Following.{Following}
+use Rattle.timefd_lint_scan.specs.declared.following.NextUses.{NextUses}
 use Rattle.timefd_lint_scan.specs.declared.uses.Use.{Use}
 use Rattle.timefd_lint_scan.specs.Bytes.{Text}
 use Rattle.timefd_lint_scan.specs.Layouts.{fingerprint}
@@ -22,6 +22,6 @@ pub record AreLasts (source : Text) (us : List Use) (count : ℕ) (kept : ℕ �
       → (j : ℕ) × (kept (fingerprint (text_of source (get_or us i d).name)) ≡ Some j) × (i ≤ j)
 
 -- What is kept is so of these uses.
-pub record AreFollowed (source : Text) (us : List Use) (f : Following) : Type 0 where
+pub record AreFollowed (source : Text) (us : List Use) (f : NextUses) : Type 0 where
   pub nexts : AreNexts source us 0 f.nexts.items
   pub lasts : AreLasts source us (length us) (get nat_eq f.lasts)

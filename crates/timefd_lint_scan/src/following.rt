@@ -16,7 +16,7 @@ use std::collections::HashMap;
 
 /// Where uses of the same name follow each other in a list.
 #[derive(Drop)]
-pub struct Following {
+pub struct NextUses {
     /// For each use an index up to which none after it has its name.
     pub nexts: Vec<usize>,
     /// For each name's fingerprint an index after which no use is of that name.
@@ -78,16 +78,16 @@ fn note_last(
 }
 
 /// Where the uses of a list follow each other. An `Err` says that memory ran out.
-pub fn following_of(alloc: Global, source: &[u8], uses: &[Use]) -> Result<Following, AllocError>
+pub fn following_of(alloc: Global, source: &[u8], uses: &[Use]) -> Result<NextUses, AllocError>
     ensures { IfOk result (AreFollowed source.now uses.now) }
 {
     let nexts = nexts_of(alloc, source, uses)?;
     let lasts = lasts_of(alloc, source, uses)?;
-    Ok(Following { nexts, lasts })
+    Ok(NextUses { nexts, lasts })
 }
 
 /// The index of the next use that may have the name of one.
-pub fn next_at(source: &[u8], uses: &[Use], following: &Following, index: usize) -> usize
+pub fn next_at(source: &[u8], uses: &[Use], following: &NextUses, index: usize) -> usize
     requires below { index < length uses.now }
     requires followed { AreFollowed source.now uses.now following.now }
     ensures further { index < result }
@@ -97,7 +97,7 @@ pub fn next_at(source: &[u8], uses: &[Use], following: &Following, index: usize)
 }
 
 /// An index after which no use has a name; `None` if none has it.
-pub fn last_of(following: &Following, name: &[u8]) -> Option<usize>
+pub fn last_of(following: &NextUses, name: &[u8]) -> Option<usize>
     ensures { result ≡ get nat_eq following.now.lasts (layouts.fingerprint name.now) }
 {
     following.lasts.get(&fingerprint(name)).copied()

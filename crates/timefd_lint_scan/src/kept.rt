@@ -138,7 +138,7 @@ impl KeptToken {
         self.start as usize
     }
 
-    /// The same, as it is kept.
+    /// Where it begins, in four bytes.
     pub fn kept_start(&self) -> u32
         ensures { result ≡ self.now.start }
     {

@@ -11,7 +11,7 @@ ghost use Rattle.timefd_lint_scan.specs.declared.uses.Use.{Use};
 
 use crate::dialect::is;
 use crate::flow::names_value;
-use crate::following::{Following, last_of, next_at};
+use crate::following::{NextUses, last_of, next_at};
 use crate::kept::KeptToken;
 use crate::known::Known;
 use crate::look::note;
@@ -58,7 +58,7 @@ fn end_of(
     source: &[u8],
     pieces: &[KeptToken],
     uses: Uses<'_>,
-    following: &Following,
+    following: &NextUses,
     declared: usize,
 ) -> usize
     requires { AreFollowed source.now uses.list.now following.now }
@@ -77,7 +77,7 @@ fn next_use(
     source: &[u8],
     pieces: &[KeptToken],
     uses: Uses<'_>,
-    following: &Following,
+    following: &NextUses,
     declared: usize,
     index: usize,
     is_used: bool,
@@ -101,7 +101,7 @@ fn next_use(
 
 /// Up to where a name surely means what a token declares with `let` or `for`.
 #[derive(Clone, Copy)]
-struct Reach {
+struct SureReach {
     /// The position before which it does; 0 if that isn't known.
     position: usize,
     /// How many bytes farther is tried next.
@@ -115,7 +115,7 @@ fn is_used_within(
     uses: Uses<'_>,
     declared: usize,
     used: Use,
-    reach: Reach,
+    reach: SureReach,
 ) -> bool
     requires found { IsFound source.now pieces.now uses }
     requires sure { IsSure source.now pieces.now declared reach.position }
@@ -128,7 +128,7 @@ fn is_used_within(
 }
 
 /// The step that is tried next: a longer one after one that was certain.
-fn next_step(reach: Reach, is_sure: bool) -> usize {
+fn next_step(reach: SureReach, is_sure: bool) -> usize {
     if is_sure {
         reach.step.saturating_mul(2)
     } else {
@@ -143,8 +143,8 @@ fn farther(
     uses: Uses<'_>,
     declared: usize,
     position: usize,
-    reach: Reach,
-) -> Reach
+    reach: SureReach,
+) -> SureReach
     requires found { IsFound source.now pieces.now uses }
     requires sure { IsSure source.now pieces.now declared reach.position }
     ensures { IsSure source.now pieces.now declared result.position }
@@ -154,12 +154,12 @@ fn farther(
     }
     let next = position.saturating_add(reach.step);
     if is_meant(source, pieces, uses.layout, declared, next) {
-        return Reach {
+        return SureReach {
             position: next,
             step: next_step(reach, true),
         };
     }
-    Reach {
+    SureReach {
         position: reach.position,
         step: next_step(reach, false),
     }
@@ -182,7 +182,7 @@ fn note_calls(
     source: &[u8],
     pieces: &[KeptToken],
     uses: Uses<'_>,
-    following: &Following,
+    following: &NextUses,
     declared: usize,
     first: usize,
     known: Known,
@@ -194,7 +194,7 @@ fn note_calls(
         (contains nat_eq named.old) (contains nat_eq named.new)) }
 {
     let end = end_of(source, pieces, uses, following, declared);
-    let mut reach = Reach {
+    let mut reach = SureReach {
         position: 0,
         step: FIRST_STEP,
     };
@@ -215,7 +215,7 @@ fn note_named(
     source: &[u8],
     pieces: &[KeptToken],
     uses: Uses<'_>,
-    following: &Following,
+    following: &NextUses,
     looked: &HashSet<usize>,
     declared: usize,
 ) -> Result<(), AllocError>
@@ -247,7 +247,7 @@ pub fn named_calls(
     source: &[u8],
     pieces: &[KeptToken],
     uses: Uses<'_>,
-    following: &Following,
+    following: &NextUses,
     looked: &HashSet<usize>,
 ) -> Result<HashSet<usize>, AllocError>
     requires found { IsFound source.now pieces.now uses }

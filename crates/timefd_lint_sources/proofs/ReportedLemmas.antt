@@ -16,7 +16,7 @@ use Rattle.timefd_lint_sources.specs.declared.reported.SourceText.{SourceText}
 use Rattle.timefd_lint_sources.specs.declared.reported.Reporting.{Reporting}
 use Rattle.timefd_lint_sources.specs.declared.reported.Reported.{Reported}
 use Rattle.timefd_lint_sources.specs.declared.verdict.TextPlace.{TextPlace}
-use Rattle.timefd_lint_sources.specs.declared.verdict.TextVerdict.{TextVerdict}
+use Rattle.timefd_lint_sources.specs.declared.verdict.TextJudgement.{TextJudgement}
 use Rattle.timefd_lint_sources.specs.Allowed.{IsLeftOf, count_in, is_covered, left_of}
 use Rattle.timefd_lint_sources.specs.Judged.{text_of}
 use Rattle.timefd_lint_sources.specs.Reported.{IsNoTextReported, IsReported, IsReportedIf}
@@ -31,7 +31,7 @@ no_text reporting s d (Err e) not noted = tt
 
 -- The text is the description's.
 pub with_verdict : {E : Type 0} (reporting : Reporting) (s : SourceText) (d : SourceDescription) (place : TextPlace)
-    (text : Text) (verdict : TextVerdict) (done : Result Reported E) → IsUtf8 text → text ≡ text_of d
+    (text : Text) (verdict : TextJudgement) (done : Result Reported E) → IsUtf8 text → text ≡ text_of d
     → place ≡ place_of s.finder d → IsVerdict place reporting.levels text verdict
     → IfOk done (λ t. IsReportedIf (is_covered reporting s d) reporting s d verdict t.end t.message.items)
     → IfOk done (λ t. IsReported reporting s d t.end t.message.items)
@@ -47,7 +47,7 @@ with_verdict reporting s d place text verdict (Ok t) utf8 same there judged repo
 with_verdict reporting s d place text verdict (Err e) utf8 same there judged reported = tt
 
 -- What comments leave is reported.
-pub left_reported : (reporting : Reporting) (s : SourceText) (d : SourceDescription) (verdict left : TextVerdict)
+pub left_reported : (reporting : Reporting) (s : SourceText) (d : SourceDescription) (verdict left : TextJudgement)
     (end : ItemEnd) (message : Text) → IsLeftOf s d verdict left → end ≡ Allowed (left_of (count_in verdict) left)
     → IsDrawn reporting s d left message → IsReportedIf true reporting s d verdict end message
 left_reported reporting s d verdict left end message is ended drawn = (left, is, ended, drawn)

@@ -20,14 +20,14 @@ use Rattle.timefd_lint_sources.specs.declared.reported.SourceText.{SourceText}
 use Rattle.timefd_lint_sources.specs.declared.verdict.RefusedParts.{RefusedParts}
 use Rattle.timefd_lint_sources.specs.declared.verdict.TextPlace.{TextPlace}
 use Rattle.timefd_lint_sources.specs.declared.verdict.TextPlace.TheVariants.{Own, Other}
-use Rattle.timefd_lint_sources.specs.declared.verdict.TextVerdict.{TextVerdict}
-use Rattle.timefd_lint_sources.specs.declared.verdict.TextVerdict.TheVariants.{Faulty, Right, Refused}
+use Rattle.timefd_lint_sources.specs.declared.verdict.TextJudgement.{TextJudgement}
+use Rattle.timefd_lint_sources.specs.declared.verdict.TextJudgement.TheVariants.{Faulty, Right, Refused}
 use Rattle.timefd_lint_sources.specs.Allowed.{IsLeftOf, IsRefusalLeft, unless_allowed, unless_trap}
 use Rattle.timefd_lint_sources.specs.Search.{IsSearched}
 use Rattle.timefd_lint_sources.specs.Verdicts.{AreTrapsIf, IsVerdict, unless_item}
 use Rattle.timefd_parse.specs.Language.{FaultIn}
 
-pub in_place : {E : Type 0} (place given : TextPlace) (levels : Option Levels) (text : Text) (done : Result TextVerdict E)
+pub in_place : {E : Type 0} (place given : TextPlace) (levels : Option Levels) (text : Text) (done : Result TextJudgement E)
     → place ≡ given → IfOk done (IsVerdict given levels text) → IfOk done (IsVerdict place levels text)
 in_place place given levels text done is judged = subst (λ p. IfOk done (IsVerdict p levels text)) (sym is) judged
 

@@ -18,8 +18,8 @@ use Rattle.timefd_lang_warnings.specs.declared.warning.Warning.{Warning}
 use Rattle.timefd_lang_warnings.specs.Codes.{all, name_of}
 use Rattle.timefd_lang_warnings.specs.Levels.{count, with_level}
 use Rattle.timefd_lint_sources.specs.declared.left.Left.{Left}
-use Rattle.timefd_lint_sources.specs.declared.verdict.TextVerdict.{TextVerdict}
-use Rattle.timefd_lint_sources.specs.declared.verdict.TextVerdict.TheVariants.{Accepted, Faulty, Right, Refused}
+use Rattle.timefd_lint_sources.specs.declared.verdict.TextJudgement.{TextJudgement}
+use Rattle.timefd_lint_sources.specs.declared.verdict.TextJudgement.TheVariants.{Accepted, Faulty, Right, Refused}
 use Rattle.timefd_lint_sources.specs.declared.reported.Reporting.{Reporting}
 use Rattle.timefd_lint_sources.specs.declared.reported.SourceText.{SourceText}
 use Rattle.timefd_lint_sources.specs.Allowances.Found.{any_allows, any_covers}
@@ -55,13 +55,13 @@ unless_allowed s d g = if is_allowed s d (code_of g) then [] else g ∷ []
 abbrev pub unless_trap : SourceText → SourceDescription → Found → List Found
 unless_trap s d f = if is_allowed s d (traps.name f.trap) then [] else f ∷ []
 
-abbrev pub IsRefusalLeft : Bool → RefusedPart → TextVerdict → Type 0
+abbrev pub IsRefusalLeft : Bool → RefusedPart → TextJudgement → Type 0
 IsRefusalLeft true part left = (none : Vec Found Global) × (left ≡ Right none) × (none.items ≡ [])
 IsRefusalLeft false part left = left ≡ Refused part
 
 -- What is left of a verdict: the warnings, faults and traps that no comment allows, and the part that is refused, unless
 -- a comment allows that.
-abbrev pub IsLeftOf : SourceText → SourceDescription → TextVerdict → TextVerdict → Type 0
+abbrev pub IsLeftOf : SourceText → SourceDescription → TextJudgement → TextJudgement → Type 0
 IsLeftOf s d (Accepted language found) left = left ≡ Accepted language (option_map (levels_left s d) found)
 IsLeftOf s d (Faulty faults) left = (rest : Vec Diagnostic Global) × (left ≡ Faulty rest)
     × (rest.items ≡ flat_map (unless_allowed s d) faults.items)
@@ -70,23 +70,23 @@ IsLeftOf s d (Right traps) left = (rest : Vec Found Global) × (left ≡ Right r
 IsLeftOf s d (Refused part) left = IsRefusalLeft (is_allowed s d (reasons.name part.reason)) part left
 
 -- How many errors a verdict has, and how many other warnings.
-abbrev pub errors_in : TextVerdict → ℕ
+abbrev pub errors_in : TextJudgement → ℕ
 errors_in (Accepted language found) = count Denied (levels_of found)
 errors_in (Faulty faults) = length faults.items
 errors_in (Right traps) = 0
 errors_in (Refused part) = 1
 
-abbrev pub warnings_in : TextVerdict → ℕ
+abbrev pub warnings_in : TextJudgement → ℕ
 warnings_in (Accepted language found) = count Warned (levels_of found)
 warnings_in (Faulty faults) = 0
 warnings_in (Right traps) = length traps.items
 warnings_in (Refused part) = 0
 
-abbrev pub count_in : TextVerdict → ℕ
+abbrev pub count_in : TextJudgement → ℕ
 count_in v = u64_saturate (errors_in v + warnings_in v)
 
 -- What is left of so many errors and warnings.
-abbrev pub left_of : ℕ → TextVerdict → Left
+abbrev pub left_of : ℕ → TextJudgement → Left
 left_of found left =
     record { is_refused = nat_lt 0 (errors_in left); warnings = warnings_in left; allowed = found - count_in left }
 

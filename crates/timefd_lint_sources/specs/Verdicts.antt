@@ -21,8 +21,8 @@ use Rattle.timefd_lint_sources.specs.declared.verdict.RefusedParts.{RefusedParts
 use Rattle.timefd_lint_sources.specs.declared.verdict.RefusedParts.TheVariants.{Unwritable, Unknown}
 use Rattle.timefd_lint_sources.specs.declared.verdict.TextPlace.{TextPlace}
 use Rattle.timefd_lint_sources.specs.declared.verdict.TextPlace.TheVariants.{Own, Other}
-use Rattle.timefd_lint_sources.specs.declared.verdict.TextVerdict.{TextVerdict}
-use Rattle.timefd_lint_sources.specs.declared.verdict.TextVerdict.TheVariants.{Accepted, Faulty, Right, Refused}
+use Rattle.timefd_lint_sources.specs.declared.verdict.TextJudgement.{TextJudgement}
+use Rattle.timefd_lint_sources.specs.declared.verdict.TextJudgement.TheVariants.{Accepted, Faulty, Right, Refused}
 use Rattle.timefd_lint_sources.specs.Items.{is_of_item}
 use Rattle.timefd_lint_sources.specs.Judged.{language_in, other_of}
 use Rattle.timefd_lint_sources.specs.Search.{IsRefusedFirst, IsRight}
@@ -73,7 +73,7 @@ AreTrapsIf true dialect text found = AreTraps dialect text found
 
 -- A text of a language of `time` spells a list or has a fault. A format of another language or library is right where it
 -- stands, or else it has a first part that is refused there.
-abbrev pub IsVerdict : TextPlace → Option Levels → Text → TextVerdict → Type 0
+abbrev pub IsVerdict : TextPlace → Option Levels → Text → TextJudgement → Type 0
 IsVerdict (Own language items) levels text (Accepted by found) = (by ≡ language) × IsAcceptedBy language levels text found
 IsVerdict (Own language items) levels text (Faulty faults) = AreFaultsOf language items text faults.items
 IsVerdict (Own language items) levels text (Right traps) = ⊥

@@ -15,8 +15,8 @@ use Rattle.timefd_lang_warnings.specs.declared.levels.Levels.{Levels}
 use Rattle.timefd_lint_warnings.specs.Messages.{messages_at}
 use Rattle.timefd_lint_sources.specs.declared.reported.ItemEnd.{ItemEnd}
 use Rattle.timefd_lint_sources.specs.declared.reported.ItemEnd.TheVariants as ends
-use Rattle.timefd_lint_sources.specs.declared.verdict.TextVerdict.{TextVerdict}
-use Rattle.timefd_lint_sources.specs.declared.verdict.TextVerdict.TheVariants.{Accepted, Faulty, Right, Refused}
+use Rattle.timefd_lint_sources.specs.declared.verdict.TextJudgement.{TextJudgement}
+use Rattle.timefd_lint_sources.specs.declared.verdict.TextJudgement.TheVariants.{Accepted, Faulty, Right, Refused}
 use Rattle.timefd_lint_sources.specs.declared.reported.SourceText.{SourceText}
 use Rattle.timefd_lint_sources.specs.declared.reported.Reporting.{Reporting}
 use Rattle.timefd_lint_sources.specs.Calls.{call_note}
@@ -70,7 +70,7 @@ drawing_of style s d (g ∷ further) =
     drawn_all style (whole_origin s) s.text.now g further ++ call_note style s d
 
 -- the messages on what is wrong with a description
-abbrev pub IsDrawn : Reporting → SourceText → SourceDescription → TextVerdict → Text → Type 0
+abbrev pub IsDrawn : Reporting → SourceText → SourceDescription → TextJudgement → Text → Type 0
 IsDrawn reporting s d (Accepted language found) message =
     IsTreeAndWarnings language reporting s d (levels_of found) message
 IsDrawn reporting s d (Faulty faults) message =
@@ -79,7 +79,7 @@ IsDrawn reporting s d (Right traps) message = message ≡ flat_map (trap_in repo
 IsDrawn reporting s d (Refused part) message = message ≡ refusal_in reporting.style s d part.reason part.index
 
 -- The outcome of a description, if no comment is about it.
-abbrev pub end_of : TextVerdict → ItemEnd
+abbrev pub end_of : TextJudgement → ItemEnd
 end_of (Accepted language found) = ends.Accepted (levels_of found)
 end_of (Faulty faults) = ends.Refused
 end_of (Right traps) = ends.Converted (length traps.items)

@@ -8,7 +8,7 @@ ghost use Rattle.timefd_lint_sources.specs.Allowed as spec;
 use crate::allowances::Allowance;
 use crate::cut::between;
 use crate::reported::{Reporting, SourceText};
-use crate::verdict::TextVerdict;
+use crate::verdict::TextJudgement;
 use std::alloc::{AllocError, Global};
 use timefd_lang_dialect::{Found, RefusedPart};
 use timefd_lang_warnings::{Level, Levels, Warning};
@@ -190,13 +190,13 @@ fn refusal_left(
     source: SourceText<'_>,
     description: &SourceDescription,
     part: RefusedPart,
-) -> TextVerdict
+) -> TextJudgement
     ensures { spec.IsRefusalLeft (spec.is_allowed source.entry description.now (reasons.name part.reason)) part result }
 {
     if is_allowed(source, description, part.reason.name()) {
-        TextVerdict::Right(Vec::new(alloc))
+        TextJudgement::Right(Vec::new(alloc))
     } else {
-        TextVerdict::Refused(part)
+        TextJudgement::Refused(part)
     }
 }
 
@@ -206,23 +206,23 @@ pub fn verdict_left(
     alloc: Global,
     source: SourceText<'_>,
     description: &SourceDescription,
-    verdict: TextVerdict,
-) -> Result<TextVerdict, AllocError>
+    verdict: TextJudgement,
+) -> Result<TextJudgement, AllocError>
     ensures { IfOk result (spec.IsLeftOf source.entry description.now verdict) }
 {
     match verdict {
-        TextVerdict::Accepted(language, found) => {
+        TextJudgement::Accepted(language, found) => {
             let left = warnings_left(source, description, found);
-            Ok(TextVerdict::Accepted(language, left))
+            Ok(TextJudgement::Accepted(language, left))
         }
-        TextVerdict::Faulty(faults) => {
+        TextJudgement::Faulty(faults) => {
             let left = faults_left(alloc, source, description, faults)?;
-            Ok(TextVerdict::Faulty(left))
+            Ok(TextJudgement::Faulty(left))
         }
-        TextVerdict::Right(traps) => {
+        TextJudgement::Right(traps) => {
             let left = traps_left(alloc, source, description, &traps)?;
-            Ok(TextVerdict::Right(left))
+            Ok(TextJudgement::Right(left))
         }
-        TextVerdict::Refused(part) => Ok(refusal_left(alloc, source, description, part)),
+        TextJudgement::Refused(part) => Ok(refusal_left(alloc, source, description, part)),
     }
 }

@@ -10,7 +10,7 @@ use crate::at_call::call_note;
 use crate::other::{refusal_in, traps_in};
 use crate::placed::all_placed_in;
 use crate::reported::{FIRST_LINE, Reporting, SourceText};
-use crate::verdict::TextVerdict;
+use crate::verdict::TextJudgement;
 use std::alloc::{AllocError, Global};
 use timefd_lint_diagnosis::Diagnostic;
 use timefd_lint_drawing::{Counter, Origin, Style, drawn_all_from};
@@ -25,7 +25,7 @@ pub fn drawn(
     from: Counter,
     description: &SourceDescription,
     text: &str,
-    verdict: TextVerdict,
+    verdict: TextJudgement,
 ) -> Result<Vec<u8>, AllocError>
     requires counted { IsCounted 1 source.text.now from }
     requires text { text.now ≡ text_of description.now }
@@ -33,7 +33,7 @@ pub fn drawn(
 {
     let style = reporting.style;
     match verdict {
-        TextVerdict::Accepted(language, found) => {
+        TextJudgement::Accepted(language, found) => {
             accepted(
                 alloc,
                 reporting,
@@ -45,9 +45,9 @@ pub fn drawn(
                 found,
             )
         }
-        TextVerdict::Faulty(faults) => faults_in(alloc, style, source, from, description, faults),
-        TextVerdict::Right(traps) => traps_in(alloc, style, source, from, description, &traps),
-        TextVerdict::Refused(part) => refusal_in(alloc, style, source, from, description, part),
+        TextJudgement::Faulty(faults) => faults_in(alloc, style, source, from, description, faults),
+        TextJudgement::Right(traps) => traps_in(alloc, style, source, from, description, &traps),
+        TextJudgement::Refused(part) => refusal_in(alloc, style, source, from, description, part),
     }
 }
 

@@ -14,7 +14,7 @@ ghost use Rattle.timefd_parse.specs.Language.{SpellsIn};
 
 use crate::opening::is_of_item;
 use crate::search::first_refusal;
-use crate::verdict::{RefusedParts, TextPlace, TextVerdict};
+use crate::verdict::{RefusedParts, TextJudgement, TextPlace};
 use std::alloc::{AllocError, Global};
 use timefd_lang_dialect::{Dialect, Found, traps};
 use timefd_lang_warnings::Levels;
@@ -31,7 +31,7 @@ pub fn judge(
     place: TextPlace,
     levels: Option<Levels>,
     text: &str,
-) -> Result<TextVerdict, AllocError>
+) -> Result<TextJudgement, AllocError>
     ensures { IfOk result (IsVerdict place levels text.now) }
 {
     match place {
@@ -47,17 +47,17 @@ fn judge_own(
     items: Items,
     levels: Option<Levels>,
     text: &str,
-) -> Result<TextVerdict, AllocError>
+) -> Result<TextJudgement, AllocError>
     ensures { IfOk result (IsVerdict (Own language items) levels text.now) }
 {
     match diagnose(alloc, language, text)? {
         None => {
             let found = warnings_in(alloc, language, levels, text)?;
-            Ok(TextVerdict::Accepted(language, found))
+            Ok(TextJudgement::Accepted(language, found))
         }
         Some(first) => {
             let faults = faults_from(alloc, language, items, text, first)?;
-            Ok(TextVerdict::Faulty(faults))
+            Ok(TextJudgement::Faulty(faults))
         }
     }
 }
@@ -146,14 +146,14 @@ fn judge_other(
     parts: RefusedParts,
     levels: Option<Levels>,
     text: &str,
-) -> Result<TextVerdict, AllocError>
+) -> Result<TextJudgement, AllocError>
     ensures { IfOk result (IsVerdict (Other dialect parts) levels text.now) }
 {
     match first_refusal(alloc, parts, dialect, text)? {
-        Some(part) => Ok(TextVerdict::Refused(part)),
+        Some(part) => Ok(TextJudgement::Refused(part)),
         None => {
             let found = traps_if(alloc, levels.is_some(), dialect, text)?;
-            Ok(TextVerdict::Right(found))
+            Ok(TextJudgement::Right(found))
         }
     }
 }

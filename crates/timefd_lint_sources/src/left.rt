@@ -3,7 +3,7 @@
 ghost use Rattle.std.specs.Prelude.{◌≡◌};
 ghost use Rattle.timefd_lint_sources.specs.Allowed as spec;
 
-use crate::verdict::{TextVerdict, levels_of};
+use crate::verdict::{TextJudgement, levels_of};
 use timefd_lang_warnings::Level;
 
 /// What is left of what is wrong with a description, if a comment is about it.
@@ -29,7 +29,7 @@ pub fn all_allowed() -> Left
 }
 
 /// What is left of so many errors and warnings, if comments allow all but `left`.
-pub fn left_of(found: u64, left: &TextVerdict) -> Left
+pub fn left_of(found: u64, left: &TextJudgement) -> Left
     ensures { result ≡ spec.left_of found left.now }
 {
     Left {
@@ -40,29 +40,29 @@ pub fn left_of(found: u64, left: &TextVerdict) -> Left
 }
 
 /// How many errors and warnings are reported of a text.
-pub fn count_in(verdict: &TextVerdict) -> u64
+pub fn count_in(verdict: &TextJudgement) -> u64
     ensures { result ≡ spec.count_in verdict.now }
 {
     errors_in(verdict).saturating_add(warnings_in(verdict))
 }
 
-fn errors_in(verdict: &TextVerdict) -> u64
+fn errors_in(verdict: &TextJudgement) -> u64
     ensures { result ≡ spec.errors_in verdict.now }
 {
     match verdict {
-        TextVerdict::Accepted(_, found) => levels_of(*found).count(Level::Denied),
-        TextVerdict::Faulty(faults) => faults.len() as u64,
-        TextVerdict::Right(_) => 0,
-        TextVerdict::Refused(_) => 1,
+        TextJudgement::Accepted(_, found) => levels_of(*found).count(Level::Denied),
+        TextJudgement::Faulty(faults) => faults.len() as u64,
+        TextJudgement::Right(_) => 0,
+        TextJudgement::Refused(_) => 1,
     }
 }
 
-fn warnings_in(verdict: &TextVerdict) -> u64
+fn warnings_in(verdict: &TextJudgement) -> u64
     ensures { result ≡ spec.warnings_in verdict.now }
 {
     match verdict {
-        TextVerdict::Accepted(_, found) => levels_of(*found).count(Level::Warned),
-        TextVerdict::Right(traps) => traps.len() as u64,
-        TextVerdict::Faulty(_) | TextVerdict::Refused(_) => 0,
+        TextJudgement::Accepted(_, found) => levels_of(*found).count(Level::Warned),
+        TextJudgement::Right(traps) => traps.len() as u64,
+        TextJudgement::Faulty(_) | TextJudgement::Refused(_) => 0,
     }
 }

@@ -45,4 +45,4 @@ pub use reported::{FIRST_LINE, Finder, ItemEnd, Reported, Reporting, SourceText}
 pub use source::{
     Judged, Report, descriptions_in, judged_in, judged_with_remarks, lint_source, report_all,
 };
-pub use verdict::{RefusedParts, TextPlace, TextVerdict, levels_of, place_of};
+pub use verdict::{RefusedParts, TextJudgement, TextPlace, levels_of, place_of};

@@ -13,7 +13,7 @@ use crate::allowed::{is_allowed, is_covered, verdict_left};
 use crate::drawn::drawn;
 use crate::judging::judge;
 use crate::left::{Left, all_allowed, count_in, left_of};
-use crate::verdict::{TextVerdict, levels_of, place_of};
+use crate::verdict::{TextJudgement, levels_of, place_of};
 use std::alloc::{AllocError, Global};
 use std::str;
 use timefd_lang_warnings::Levels;
@@ -139,7 +139,7 @@ fn report_verdict(
     from: Counter,
     description: &SourceDescription,
     text: &str,
-    verdict: TextVerdict,
+    verdict: TextJudgement,
 ) -> Result<Reported, AllocError>
     requires counted { IsCounted 1 source.text.now from }
     requires text { text.now ≡ text_of description.now }
@@ -161,7 +161,7 @@ fn report_whole(
     from: Counter,
     description: &SourceDescription,
     text: &str,
-    verdict: TextVerdict,
+    verdict: TextJudgement,
 ) -> Result<Reported, AllocError>
     requires counted { IsCounted 1 source.text.now from }
     requires text { text.now ≡ text_of description.now }
@@ -182,7 +182,7 @@ fn report_left(
     from: Counter,
     description: &SourceDescription,
     text: &str,
-    verdict: TextVerdict,
+    verdict: TextJudgement,
 ) -> Result<Reported, AllocError>
     requires counted { IsCounted 1 source.text.now from }
     requires text { text.now ≡ text_of description.now }
@@ -197,13 +197,13 @@ fn report_left(
 }
 
 // The outcome of a description that no comment is about.
-fn end_of(verdict: &TextVerdict) -> ItemEnd
+fn end_of(verdict: &TextJudgement) -> ItemEnd
     ensures { result ≡ spec.end_of verdict.now }
 {
     match verdict {
-        TextVerdict::Accepted(_, found) => ItemEnd::Accepted(levels_of(*found)),
-        TextVerdict::Right(traps) => ItemEnd::Converted(traps.len() as u64),
-        TextVerdict::Faulty(_) | TextVerdict::Refused(_) => ItemEnd::Refused,
+        TextJudgement::Accepted(_, found) => ItemEnd::Accepted(levels_of(*found)),
+        TextJudgement::Right(traps) => ItemEnd::Converted(traps.len() as u64),
+        TextJudgement::Faulty(_) | TextJudgement::Refused(_) => ItemEnd::Refused,
     }
 }
 

@@ -31,7 +31,7 @@ pub enum TextPlace {
 
 /// What is wrong with a text where it stands, in the order in which it is reported.
 #[derive(Drop)]
-pub enum TextVerdict {
+pub enum TextJudgement {
     /// This language of `time` accepts it. These are the levels of its warnings, if warnings are looked for; any other
     /// warning is allowed.
     Accepted(Language, Option<Levels>),

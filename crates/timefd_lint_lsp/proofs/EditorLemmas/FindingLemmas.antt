@@ -19,8 +19,8 @@ use Rattle.timefd_lint_lsp.specs.Editor.Findings.{AreBy, AreFaults, AreOn, IsFau
 use Rattle.timefd_lang_fault.specs.Faults.{fault_of}
 use Rattle.timefd_lint_sources.specs.declared.reported.Finder.{Finder}
 use Rattle.timefd_lint_sources.specs.declared.verdict.TextPlace.{TextPlace}
-use Rattle.timefd_lint_sources.specs.declared.verdict.TextVerdict.{TextVerdict}
-use Rattle.timefd_lint_sources.specs.declared.verdict.TextVerdict.TheVariants.{Accepted, Faulty, Right}
+use Rattle.timefd_lint_sources.specs.declared.verdict.TextJudgement.{TextJudgement}
+use Rattle.timefd_lint_sources.specs.declared.verdict.TextJudgement.TheVariants.{Accepted, Faulty, Right}
 use Rattle.timefd_lint_sources.specs.Judged.{text_of}
 use Rattle.timefd_lint_sources.specs.Verdicts.{IsVerdict, levels_of, place_of}
 use Rattle.timefd_lint_scan.specs.declared.description.SourceDescription.{SourceDescription}
@@ -35,7 +35,7 @@ no_text levels finder text d before after (Err e) not added = tt
 
 -- A description is judged where it stands.
 pub with_verdict : {R E : Type 0} (levels : Option Levels) (finder : Finder) (text : Text) (d : SourceDescription)
-    (place : TextPlace) (description : Text) (verdict : TextVerdict) (before after : List Finding) (done : Result R E)
+    (place : TextPlace) (description : Text) (verdict : TextJudgement) (before after : List Finding) (done : Result R E)
     → IsUtf8 description → description ≡ text_of d → place ≡ place_of finder d
     → IsVerdict place levels description verdict → OnOk done (Adds (AreBy text d verdict) before after)
     → OnOk done (Adds (AreOn levels finder text d) before after)
@@ -57,7 +57,7 @@ with_verdict levels finder text d place description verdict before after (Err e)
 
 -- What a verdict has is handed on as levels and slices.
 
-pub by_warnings : {R E : Type 0} (text : Text) (d : SourceDescription) (verdict : TextVerdict) (language : Language)
+pub by_warnings : {R E : Type 0} (text : Text) (d : SourceDescription) (verdict : TextJudgement) (language : Language)
     (warned : Option Levels) (given : Levels) (before after : List Finding) (done : Result R E)
     → verdict ≡ Accepted language warned → given ≡ levels_of warned
     → OnOk done (Adds (AreWarnings text d given) before after) → OnOk done (Adds (AreBy text d verdict) before after)
@@ -65,7 +65,7 @@ by_warnings text d verdict language warned given before after done is same added
     subst (λ v. OnOk done (Adds (AreBy text d v) before after)) (sym is)
     (subst (λ l. OnOk done (Adds (AreWarnings text d l) before after)) same added)
 
-pub by_faults : {R E : Type 0} (text : Text) (d : SourceDescription) (verdict : TextVerdict)
+pub by_faults : {R E : Type 0} (text : Text) (d : SourceDescription) (verdict : TextJudgement)
     (faults : Vec Diagnostic Global) (given : List Diagnostic) (before after : List Finding) (done : Result R E)
     → verdict ≡ Faulty faults → given ≡ faults.items → OnOk done (Adds (AreFaults text d given) before after)
     → OnOk done (Adds (AreBy text d verdict) before after)
@@ -73,7 +73,7 @@ by_faults text d verdict faults given before after done is same added =
     subst (λ v. OnOk done (Adds (AreBy text d v) before after)) (sym is)
     (subst (λ l. OnOk done (Adds (AreFaults text d l) before after)) same added)
 
-pub by_traps : {R E : Type 0} (text : Text) (d : SourceDescription) (verdict : TextVerdict) (traps : Vec Found Global)
+pub by_traps : {R E : Type 0} (text : Text) (d : SourceDescription) (verdict : TextJudgement) (traps : Vec Found Global)
     (given : List Found) (before after : List Finding) (done : Result R E) → verdict ≡ Right traps
     → given ≡ traps.items → OnOk done (Adds (AreOf (IsTrap text d) given) before after)
     → OnOk done (Adds (AreBy text d verdict) before after)

@@ -13,8 +13,8 @@ use Rattle.timefd_lint_lsp.specs.Editor.Finding.{AreWarnings, IsNote, IsOne}
 use Rattle.timefd_lint_lsp.specs.Editor.Others.{IsRefusal, IsTrap}
 use Rattle.timefd_lint_lsp.specs.Editor.Remarked.{IsRemarked}
 use Rattle.timefd_lang_fault.specs.Faults.{fault_of}
-use Rattle.timefd_lint_sources.specs.declared.verdict.TextVerdict.{TextVerdict}
-use Rattle.timefd_lint_sources.specs.declared.verdict.TextVerdict.TheVariants.{Accepted, Faulty, Right, Refused}
+use Rattle.timefd_lint_sources.specs.declared.verdict.TextJudgement.{TextJudgement}
+use Rattle.timefd_lint_sources.specs.declared.verdict.TextJudgement.TheVariants.{Accepted, Faulty, Right, Refused}
 use Rattle.timefd_lint_sources.specs.declared.reported.Finder.{Finder}
 use Rattle.timefd_lint_sources.specs.declared.reported.SourceText.{SourceText}
 use Rattle.timefd_lint_sources.specs.Allowances.Found.{AreAllowances}
@@ -44,7 +44,7 @@ AreFaults text d (g ∷ further) found = (one : List Finding) × (rest : List Fi
     × IsFault text d false g one × AreOf (IsFault text d true) further rest × (found ≡ one ++ rest)
 
 -- What is wrong with a description, in the order in which it is reported.
-abbrev pub AreBy : Text → SourceDescription → TextVerdict → List Finding → Type 0
+abbrev pub AreBy : Text → SourceDescription → TextJudgement → List Finding → Type 0
 AreBy text d (Accepted language warned) found = AreWarnings text d (levels_of warned) found
 AreBy text d (Faulty faults) found = AreFaults text d faults.items found
 AreBy text d (Right traps) found = AreOf (IsTrap text d) traps.items found
@@ -53,7 +53,7 @@ AreBy text d (Refused part) found = IsRefusal text d part found
 -- What is wrong with a description where it stands, if it is UTF-8.
 abbrev pub AreOn : Option Levels → Finder → Text → SourceDescription → List Finding → Type 0
 AreOn levels finder text d found =
-    (IsUtf8 (text_of d) × ((verdict : TextVerdict) × IsVerdict (place_of finder d) levels (text_of d) verdict
+    (IsUtf8 (text_of d) × ((verdict : TextJudgement) × IsVerdict (place_of finder d) levels (text_of d) verdict
     × AreBy text d verdict found))
     ⊎ ((¬ IsUtf8 (text_of d)) × IsNote text d found)
 

@@ -18,7 +18,7 @@ use timefd_lang_warnings::Levels;
 use timefd_lint_scan::SourceDescription;
 use timefd_lint_sources::allowances::allowances_in;
 use timefd_lint_sources::{
-    Finder, Judged, SourceText, TextVerdict, is_allowed, judge, judged_with_remarks, levels_of,
+    Finder, Judged, SourceText, TextJudgement, is_allowed, judge, judged_with_remarks, levels_of,
     place_of,
 };
 
@@ -182,7 +182,7 @@ fn push_judged(
 fn push_verdict(
     alloc: Global,
     spot: DocumentSpot<'_>,
-    verdict: &TextVerdict,
+    verdict: &TextJudgement,
     found: &mut Vec<Finding>,
 ) -> Result<(), AllocError>
     requires { IsCounted spot.text.now spot.counter }
@@ -190,9 +190,9 @@ fn push_verdict(
         found.old.items found.new.items) }
 {
     match verdict {
-        TextVerdict::Accepted(_, warned) => push_warnings(alloc, spot, levels_of(*warned), found),
-        TextVerdict::Faulty(faults) => push_faults(alloc, spot, faults, found),
-        TextVerdict::Right(traps) => push_traps(alloc, spot, traps, found),
-        TextVerdict::Refused(part) => push_refusal(alloc, spot, *part, found),
+        TextJudgement::Accepted(_, warned) => push_warnings(alloc, spot, levels_of(*warned), found),
+        TextJudgement::Faulty(faults) => push_faults(alloc, spot, faults, found),
+        TextJudgement::Right(traps) => push_traps(alloc, spot, traps, found),
+        TextJudgement::Refused(part) => push_refusal(alloc, spot, *part, found),
     }
 }
