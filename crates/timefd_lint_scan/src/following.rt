@@ -24,12 +24,7 @@ pub struct Following {
 }
 
 // The index of the next use with the name of one, by what is kept for those after it.
-fn next_of(
-    source: &[u8],
-    uses: &[Use],
-    firsts: &HashMap<u64, usize>,
-    index: usize,
-) -> usize
+fn next_of(source: &[u8], uses: &[Use], firsts: &HashMap<u64, usize>, index: usize) -> usize
     requires below { index < length uses.now }
     requires firsts { AreFirsts source.now uses.now (index + 1) (get nat_eq firsts.now) }
     ensures { AreOthers source.now uses.now index result }
@@ -58,11 +53,7 @@ fn nexts_of(alloc: Global, source: &[u8], uses: &[Use]) -> Result<Vec<usize>, Al
 
 // For each name's fingerprint an index after which no use is of that name. An `Err` says that memory ran out.
 #[tactic(auto, using(crate::proofs::FollowingLemmas::no_lasts))]
-fn lasts_of(
-    alloc: Global,
-    source: &[u8],
-    uses: &[Use],
-) -> Result<HashMap<u64, usize>, AllocError>
+fn lasts_of(alloc: Global, source: &[u8], uses: &[Use]) -> Result<HashMap<u64, usize>, AllocError>
     ensures { IfOk result (λ lasts. AreLasts source.now uses.now (length uses.now) (get nat_eq lasts)) }
 {
     let mut lasts: HashMap<u64, usize> = HashMap::new(alloc);

@@ -192,8 +192,8 @@ fn seen_in(
     })
 }
 
-/// Looks for descriptions in a source. An `Err` says that memory ran out.
-pub fn looked_at(alloc: Global, source: &str) -> Result<Look, AllocError>
+/// Looks for descriptions in a source, without examples in its comments. An `Err` says that memory ran out.
+pub fn look_of(alloc: Global, source: &str) -> Result<Look, AllocError>
     ensures { IfOk result (IsLook source.now) }
 {
     if !may_describe(source.as_bytes()) {
@@ -215,15 +215,4 @@ pub fn looked_at(alloc: Global, source: &str) -> Result<Look, AllocError>
         calls,
         comments: words,
     })
-}
-
-/// The descriptions in a source, in order: arguments of known calls, what such a call gets by a name of the
-/// same file, and literals for which a comment names a language. An `Err` says that memory ran out.
-pub fn descriptions_of(alloc: Global, source: &str) -> Result<Vec<SourceDescription>, AllocError>
-    ensures all { IfOk result (λ found. AreDescriptionsOf source.now found.items) }
-    ensures stand { IfOk result (λ found. AllStandIn source.now found.items) }
-    ensures in_order { IfOk result (λ found. AreInOrder 0 found.items) }
-{
-    let seen = looked_at(alloc, source)?;
-    Ok(seen.descriptions)
 }

@@ -13,9 +13,9 @@ use crate::dialect::is;
 use crate::flow::names_value;
 use crate::following::{Following, last_of, next_at};
 use crate::known::Known;
+use crate::look::note;
 use crate::piece::PlacedToken;
 use crate::runs::end_at;
-use crate::look::note;
 use crate::uses::{Use, Uses, first_use, is_meant, is_past, is_use_of};
 use crate::word::{text_after, text_at, text_before, text_of};
 use std::alloc::{AllocError, Global};
@@ -234,7 +234,9 @@ fn note_named(
     if !is_among(looked, known.call) {
         return Ok(());
     }
-    note_calls(named, source, pieces, uses, following, declared, first, known)
+    note_calls(
+        named, source, pieces, uses, following, declared, first, known,
+    )
 }
 
 /// The positions of calls that take by a name what is looked at for calls at these positions. An `Err` says that memory

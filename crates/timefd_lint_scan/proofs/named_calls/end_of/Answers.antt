@@ -11,8 +11,8 @@ returns-in-Some-clause-unused c =
     (get nat_eq c.args.following.now.lasts) c.requires.lasts
     (c.last_of.ensures ∙ ap (λ t. get nat_eq c.args.following.now.lasts (fingerprint t)) c.text_at.ensures)
     (λ j is.
-      let same : j ≡ c.in-Some.last = cc (is, c.in-Some.is) in
-      omega (arith, same))
+    let same : j ≡ c.in-Some.last = cc (is, c.in-Some.is) in
+    omega (arith, same))
 
 pub returns-in-None-clause-unused : goal.returns-in-None-clause-unused
 returns-in-None-clause-unused c =

@@ -1,0 +1,104 @@
+-- What is seen in a source and in the examples of its doc comments.
+use Rattle.std.specs.Prelude.{ℕ, ◌≡◌, ◌+◌, ◌⊎◌, Bool, true, false, not, nat_le, nat_lt, if◌then◌else◌, List, [], ◌∷◌, ◌++◌, drop, length, Option, Some, None}
+use Rattle.std.specs.List.{flat_map, map, prefix_len}
+use Rattle.std.specs.Option.{option_map, option_to_list}
+use Rattle.timefd_lint_scan.specs.declared.candidate.CandidateLiteral.{CandidateLiteral}
+use Rattle.timefd_lint_scan.specs.declared.description.SourceDescription.{SourceDescription}
+use Rattle.timefd_lint_scan.specs.declared.look.Look.{Look}
+use Rattle.timefd_lint_scan.specs.declared.piece.PlacedToken.{PlacedToken}
+use Rattle.timefd_lint_scan.specs.declared.version.VersionPosition.{VersionPosition}
+use Rattle.timefd_lint_scan.specs.declared.version.VersionPosition.TheVariants.{Digit, Unsaid, Call, Elsewhere}
+use Rattle.timefd_lint_scan.specs.Bytes.{Text}
+use Rattle.timefd_lint_scan.specs.DocTests.{Example, tests_in}
+use Rattle.timefd_lint_scan.specs.Found.{IsDescribed, begun_after, end_after}
+use Rattle.timefd_lint_scan.specs.Gathered.{AreComments}
+use Rattle.timefd_lint_scan.specs.Looks.{IsBlank, IsLook}
+use Rattle.timefd_lint_scan.specs.Names.{HasNoName}
+
+abbrev pub moved_version : ℕ → VersionPosition → VersionPosition
+moved_version start (Digit at) = Digit (start + at)
+moved_version start Unsaid = Unsaid
+moved_version start Call = Call
+moved_version start Elsewhere = Elsewhere
+
+abbrev pub moved_piece : ℕ → PlacedToken → PlacedToken
+moved_piece start p = record p { start = start + p.start; end = start + p.end }
+
+abbrev pub moved_call : ℕ → Option ℕ → Option ℕ
+moved_call start None = None
+moved_call start (Some at) = Some (start + at)
+
+-- a description of an example as a literal of the source, in which the example begins at a position
+abbrev pub moved : ℕ → SourceDescription → CandidateLiteral
+moved start d = record {
+  piece = moved_piece start d.piece;
+  kind = d.kind;
+  known = record {
+    dialect = d.dialect;
+    items = d.items;
+    version = moved_version start d.version;
+    wants_percent = false;
+    call = moved_call start d.call;
+  };
+}
+
+-- A token is in one line.
+abbrev pub is_in_a_line : Text → PlacedToken → Bool
+is_in_a_line code p = nat_le p.end (p.start + prefix_len (λ byte. not (byte == 10)) (drop p.start code))
+
+-- the literals of an example that are looked at in the source: those in one line
+abbrev pub short : Example → SourceDescription → List CandidateLiteral
+short e d = if is_in_a_line e.code d.piece then moved e.start d ∷ [] else []
+
+-- where those begin that aren't
+abbrev pub long : Example → SourceDescription → List ℕ
+long e d = if is_in_a_line e.code d.piece then [] else (e.start + d.piece.start) ∷ []
+
+-- Each example is looked at by itself.
+abbrev pub AreLooks : List Example → List Look → Type 0
+AreLooks [] looks = looks ≡ []
+AreLooks (e ∷ es) looks = (look : Look) × (rest : List Look) × IsLook e.code look × AreLooks es rest × (looks ≡ look ∷ rest)
+
+abbrev pub all_short : List Example → List Look → List CandidateLiteral
+all_short [] looks = []
+all_short (e ∷ es) [] = []
+all_short (e ∷ es) (look ∷ looks) = flat_map (short e) look.descriptions.items ++ all_short es looks
+
+abbrev pub all_long : List Example → List Look → List ℕ
+all_long [] looks = []
+all_long (e ∷ es) [] = []
+all_long (e ∷ es) (look ∷ looks) = flat_map (long e) look.descriptions.items ++ all_long es looks
+
+-- These descriptions of the source itself and those of examples, each before the next one.
+abbrev pub AreJoined : Text → ℕ → List CandidateLiteral → List SourceDescription → List SourceDescription → Type 0
+AreJoined source from [] own all = AreKept from own all
+AreJoined source from (c ∷ cs) [] all =
+    (answer : Option SourceDescription) × (rest : List SourceDescription) × IsDescribed source c answer
+    × AreJoined source (end_after from (begun_after from answer)) cs [] rest
+    × (all ≡ option_to_list (begun_after from answer) ++ rest)
+AreJoined source from (c ∷ cs) (d ∷ ds) all =
+    if nat_lt c.piece.start d.piece.start then
+    ((answer : Option SourceDescription) × (rest : List SourceDescription) × IsDescribed source c answer
+    × AreJoined source (end_after from (begun_after from answer)) cs (d ∷ ds) rest
+    × (all ≡ option_to_list (begun_after from answer) ++ rest))
+    else ((rest : List SourceDescription) × AreJoined source (end_after from (begun_after from (Some d))) (c ∷ cs) ds rest
+    × (all ≡ option_to_list (begun_after from (Some d)) ++ rest))
+
+abbrev pub AreKept : ℕ → List SourceDescription → List SourceDescription → Type 0
+AreKept from [] all = all ≡ []
+AreKept from (d ∷ ds) all = (rest : List SourceDescription)
+    × AreKept (end_after from (begun_after from (Some d))) ds rest × (all ≡ option_to_list (begun_after from (Some d)) ++ rest)
+
+-- What is seen in a source by itself, and in its examples.
+pub record IsSeenWithin (source : Text) (look : Look) : Type 0 where
+  pub own : Look
+  pub by_itself : IsLook source own
+  pub notes : List PlacedToken
+  pub comments : AreComments source notes
+  pub looks : List Look
+  pub examples : AreLooks (tests_in source notes) looks
+  pub descriptions : AreJoined source 0 (all_short (tests_in source notes) looks) own.descriptions.items look.descriptions.items
+
+-- Nothing is seen in a source that has none of the names that descriptions come with.
+abbrev pub IsLookWithin : Text → Look → Type 0
+IsLookWithin source look = (HasNoName source × IsBlank look) ⊎ IsSeenWithin source look

@@ -1,0 +1,191 @@
+-- Examples in doc comments, as rustdoc compiles them: each is a source by itself.
+use Rattle.std.specs.Prelude.{ℕ, zero, suc, ◌≡◌, ◌+◌, ◌<◌, ◌⊎◌, Bool, true, false, not, ◌&&◌, ◌||◌, ◌==◌, nat_le, nat_lt, if◌then◌else◌, List, [], ◌∷◌, ◌++◌, codes, bytes_eq, drop, get_or, length, replicate, take, Option, Some, None}
+use Rattle.std.specs.List.{prefix_len, starts_with}
+use Rattle.timefd_lint_scan.specs.declared.class.ByteSet.TheVariants.{White}
+use Rattle.timefd_lint_scan.specs.declared.piece.PlacedToken.{PlacedToken}
+use Rattle.timefd_lint_scan.specs.After.{after_run}
+use Rattle.timefd_lint_scan.specs.Bytes.{Text, is_white}
+use Rattle.timefd_lint_scan.specs.Literals.{cut}
+use Rattle.timefd_lint_scan.specs.Marks.{in_front}
+
+-- Each byte of a code is that of the source at its position, or a space.
+abbrev pub StandsAt : Text → ℕ → Text → Type 0
+StandsAt source start code =
+    (i : ℕ) → i < length code → (get_or code i 0 ≡ 32) ⊎ (get_or code i 0 ≡ get_or source (start + i) 0)
+
+-- the code of a line that begins with its first byte that isn't white: the sign of a hidden line is a space, and so is the first of
+-- two signs, which rustdoc leaves out
+abbrev pub shown : Text → Text
+shown [] = []
+shown (b ∷ []) = if b == 35 then 32 ∷ [] else b ∷ []
+shown (b ∷ next ∷ rest) = if b == 35 && (next == 35 || is_white next) then 32 ∷ next ∷ rest else b ∷ next ∷ rest
+
+-- the code of a line of a comment, after the three bytes of its sign
+abbrev pub code_of : Text → Text
+code_of text = in_front text (after_run is_white text) ++ shown (after_run is_white text)
+
+-- what the words say up to one about a block: nothing yet, that it is Rust, that it is another language, that it has to fail
+data pub Verdict : Type 0 where
+  Unsaid : Verdict
+  Rust : Verdict
+  Other : Verdict
+  Failing : Verdict
+
+abbrev pub is_attribute : Text → Bool
+is_attribute word =
+    bytes_eq word (codes "should_panic") || bytes_eq word (codes "no_run") || bytes_eq word (codes "test_harness")
+    || bytes_eq word (codes "standalone_crate") || bytes_eq (take 6 word) (codes "ignore")
+
+abbrev pub says_nothing : Text → Bool
+says_nothing word = length word == 0 || bytes_eq (take 7 word) (codes "edition")
+
+abbrev pub with_word : Verdict → Text → Verdict
+with_word Unsaid word =
+    if bytes_eq word (codes "rust") || is_attribute word then Rust else Other
+with_word Rust word = Rust
+with_word Other word = if bytes_eq word (codes "rust") then Rust else Other
+with_word Failing word = Failing
+
+abbrev pub after_word : Verdict → Text → Verdict
+after_word verdict word =
+    if bytes_eq word (codes "compile_fail") then Failing
+    else if says_nothing word then verdict
+    else with_word verdict word
+
+-- A byte of a word after a fence.
+abbrev pub is_of_word : ℕ → Bool
+is_of_word byte = not (byte == 44 || is_white byte)
+
+abbrev pub word_end : Text → ℕ
+word_end text = prefix_len is_of_word text
+
+-- what the words of a text say, at most so many of them, after others
+abbrev pub verdict_of : ℕ → Verdict → Text → Verdict
+verdict_of zero verdict text = verdict
+verdict_of (suc most) verdict [] = verdict
+verdict_of (suc most) verdict (b ∷ bytes) =
+    verdict_of most (after_word verdict (take (word_end (b ∷ bytes)) (b ∷ bytes))) (drop (word_end (b ∷ bytes) + 1) (b ∷ bytes))
+
+abbrev pub takes : Verdict → Bool
+takes Unsaid = true
+takes Rust = true
+takes Other = false
+takes Failing = false
+
+-- A block with these words after its fence is an example of Rust that has to compile.
+abbrev pub is_rust : Text → Bool
+is_rust info = takes (verdict_of (length info) Unsaid info)
+
+-- how many of these bytes a text begins with
+abbrev pub count_of : ℕ → Text → ℕ
+count_of sign text = prefix_len (λ byte. byte == sign) text
+
+-- three or more backticks without others after them in the line, or three or more tildes
+abbrev pub is_opening_by : ℕ → Text → Bool
+is_opening_by sign text =
+    nat_le 3 (count_of sign text) && (sign == 126 || prefix_len (λ byte. not (byte == sign)) (drop (count_of sign text) text)
+    == length (drop (count_of sign text) text))
+
+abbrev pub is_closing_by : ℕ → ℕ → Text → Bool
+is_closing_by sign count text =
+    nat_le count (count_of sign text) && length (after_run is_white (drop (count_of sign text) text)) == 0
+
+-- where a line of a doc comment stands: in no block, in an example, or in another block, which so many of these bytes close
+data pub Place : Type 0 where
+  Outside : Place
+  In : ℕ → ℕ → Place
+  Block : ℕ → ℕ → Place
+
+abbrev pub opened_by : ℕ → Text → Place
+opened_by sign text =
+    if not (is_opening_by sign text) then Outside
+    else if is_rust (drop (count_of sign text) text) then In sign (count_of sign text)
+    else Block sign (count_of sign text)
+
+abbrev pub opened : Text → Place
+opened [] = Outside
+opened (b ∷ bytes) = if b == 96 || b == 126 then opened_by b (b ∷ bytes) else Outside
+
+-- the place after a line that stands at another
+abbrev pub place_after : Place → Text → Place
+place_after Outside line = opened (after_run is_white line)
+place_after (In sign count) line =
+    if is_closing_by sign count (after_run is_white line) then Outside else In sign count
+place_after (Block sign count) line =
+    if is_closing_by sign count (after_run is_white line) then Outside else Block sign count
+
+-- A line of a doc comment: whether it is about the item that it is in, and what stands after its sign.
+pub record Line : Type 0 where
+  pub piece : PlacedToken
+  pub inner : Bool
+  pub text : Text
+
+-- a comment as a line of a doc comment, if it is one: `///`, but not `////`, or `//!`
+abbrev pub line_of : PlacedToken → Option Text → Option Line
+line_of p None = None
+line_of p (Some comment) =
+    if bytes_eq (take 4 comment) (codes "////") then None
+    else if bytes_eq (take 3 comment) (codes "///") then Some (record { piece = p; inner = false; text = drop 3 comment })
+    else if bytes_eq (take 3 comment) (codes "//!") then Some (record { piece = p; inner = true; text = drop 3 comment })
+    else None
+
+-- A line goes on with the doc comment of the line before it: only white bytes are between them.
+abbrev pub goes_on : Text → Option Line → Line → Bool
+goes_on source None line = false
+goes_on source (Some before) line =
+    (if before.inner then line.inner else not line.inner) && nat_le before.piece.end line.piece.start
+    && length (after_run is_white (take (line.piece.start - before.piece.end) (drop before.piece.end source))) == 0
+
+abbrev pub place_before : Text → Place → Option Line → Line → Place
+place_before source place before line = if goes_on source before line then place else Outside
+
+-- an example: its code, and where that begins in the source
+pub record Example : Type 0 where
+  pub start : ℕ
+  pub code : Text
+
+-- an example with one line more: the white bytes before it, three spaces for its sign, and its code
+abbrev pub with_line : Text → Example → Line → Example
+with_line source e line = record {
+  start = e.start;
+  code = e.code ++ take (line.piece.start - (e.start + length e.code)) (drop (e.start + length e.code) source)
+      ++ 32 ∷ 32 ∷ 32 ∷ [] ++ code_of line.text;
+}
+
+abbrev pub begun_at : ℕ → Example
+begun_at start = record { start = start; code = [] }
+
+abbrev pub is_in_example : Place → Bool
+is_in_example Outside = false
+is_in_example (In sign count) = true
+is_in_example (Block sign count) = false
+
+-- the example that is open after a line; it begins after the line that opens it
+abbrev pub open_after : Text → Place → Line → Place → Example → Example
+open_after source before line now e =
+    if not (is_in_example now) then e
+    else if is_in_example before then with_line source e line
+    else begun_at line.piece.end
+
+-- the example that was open before a line, if the line isn't in it
+abbrev pub closed_by : Bool → Place → Example → List Example
+closed_by goes place e = if is_in_example place && not goes then e ∷ [] else []
+
+-- the examples in these comments, after a line at a place, in which an example is open if it is one
+abbrev pub tests_from : Text → Place → Option Line → Example → List PlacedToken → List Example
+tests_from source place before e [] = closed_by false place e
+tests_from source place before e (c ∷ cs) = tests_after source place before e cs (line_of c (cut source c))
+
+abbrev pub tests_after : Text → Place → Option Line → Example → List PlacedToken → Option Line → List Example
+tests_after source place before e cs None = closed_by false place e ++ tests_from source Outside None e cs
+tests_after source place before e cs (Some line) =
+    tests_at source place (place_before source place before line) e cs line
+
+abbrev pub tests_at : Text → Place → Place → Example → List PlacedToken → Line → List Example
+tests_at source place start e cs line =
+    closed_by (is_in_example start && is_in_example (place_after start line.text)) place e
+    ++ tests_from source (place_after start line.text) (Some line) (open_after source start line (place_after start line.text) e) cs
+
+-- the examples in these comments of a source, in order
+abbrev pub tests_in : Text → List PlacedToken → List Example
+tests_in source cs = tests_from source Outside None (begun_at 0) cs

@@ -1,0 +1,60 @@
+//! Fences, which open and close blocks of code in Markdown.
+
+use crate::class::{ByteSet, after_run};
+use crate::line::from;
+use memchr::memchr;
+
+/// At least this many signs are a fence.
+const FEWEST_SIGNS: usize = 3;
+
+/// A fence: so many backticks or tildes.
+#[derive(Clone, Copy)]
+pub struct Fence {
+    sign: u8,
+    count: usize,
+}
+
+/// A line that opens a block.
+#[derive(Clone, Copy)]
+pub struct Opening<'a> {
+    pub fence: Fence,
+    /// What stands after the fence.
+    pub info: &'a [u8],
+}
+
+/// How many of these bytes a text begins with.
+fn count_of(text: &[u8], sign: u8) -> usize {
+    let mut count: usize = 0;
+    'bytes: while count < text.len() && text[count] == sign {
+        count += 1;
+    }
+    count
+}
+
+/// The fence that a line opens a block with, if it does. After backticks there are no others in the line.
+pub fn opening_of(line: &[u8]) -> Option<Opening<'_>> {
+    let text = after_run(ByteSet::White, line);
+    let sign = match text {
+        [b'`', ..] => b'`',
+        _ => b'~',
+    };
+    let count = count_of(text, sign);
+    if count < FEWEST_SIGNS {
+        return None;
+    }
+    let info = from(text, count);
+    match memchr(sign, info) {
+        Some(_) if sign == b'`' => None,
+        Some(_) | None => Some(Opening {
+            fence: Fence { sign, count },
+            info,
+        }),
+    }
+}
+
+/// Whether a line closes the block that a fence has opened: it has only that fence, or a longer one.
+pub fn closes(fence: Fence, line: &[u8]) -> bool {
+    let text = after_run(ByteSet::White, line);
+    let count = count_of(text, fence.sign);
+    fence.count <= count && after_run(ByteSet::White, from(text, count)).is_empty()
+}
