@@ -15,7 +15,7 @@
 
 enum { ROOM = 128 };
 
-static const char LETTERS[] = "aAbBcCdDeFgGhHIjkKlLmMnNpPqQrRsStTuUvVwWxXyYzZ%";
+static const char LETTERS[] = "abcdefghijklmnopqrstuvwxyzABCDEFGHIJKLMNOPQRSTUVWXYZ%";
 
 static uint64_t state = 20261124;
 

@@ -92,10 +92,10 @@ def filled(first, parts, indent, width=WIDTH):
     return lines
 
 
-def equation(left, right):
+def equation(left, right, width=WIDTH):
     """A line of a definition, or two."""
     line = f"{left} = {right}"
-    return [line] if len(line) <= WIDTH else [f"{left} =", f"    {right}"]
+    return [line] if len(line) <= width else [f"{left} =", f"    {right}"]
 
 
 def broken(left, parts):

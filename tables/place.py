@@ -1,5 +1,6 @@
 """Where a table is in a file: found by the lines around it, so that no file needs marks."""
 import dataclasses
+import re
 import typing
 
 
@@ -121,6 +122,28 @@ class Table:
         return "\n".join([*lines[:begin], *self.rows(), *lines[end:]])
 
 
+@dataclasses.dataclass(frozen=True)
+class Part:
+    """What fits a pattern in a line of a file, the first that begins so, and what it is."""
+
+    file: str
+    begins: str
+    pattern: str
+    made: typing.Callable
+
+    def __str__(self):
+        return self.begins
+
+    def written(self, text):
+        """The text of the file with this part as it should be."""
+        lines = text.split("\n")
+        at = first(lines, 0, self.begins)
+        lines[at], count = re.subn(self.pattern, lambda _: self.made(), lines[at], count=1)
+        if not count:
+            raise NotFound(f"the line that begins with `{self.begins}` has nothing like `{self.pattern}`")
+        return "\n".join(lines)
+
+
 def each(file, place, rows, template):
-    """A table with one line for each component, or each name."""
+    """A table with one line for each row."""
     return Table(file, place, lambda: [template.format(it) for it in rows])

@@ -15,11 +15,11 @@ def equalities():
     ]
 
 
-def cases(file, definition, components, left, right, before=""):
-    """A definition by cases, with an equation for each component. Its sides are texts or functions."""
+def cases(file, definition, components, left, right, before="", width=WIDTH):
+    """A definition by cases, with an equation for each row. Its sides are texts or functions."""
     def lines():
         sides = [side if callable(side) else side.format for side in (left, right)]
-        return [line for it in components for line in equation(*(side(it) for side in sides))]
+        return [line for it in components for line in equation(*(side(it) for side in sides), width)]
     return Table(file, Between((definition,), before), lines)
 
 
@@ -106,7 +106,7 @@ TABLES = [
     cases(f"{COMPONENT}/ComponentEquality.antt", "pub component_sound :", ALL, *SOUND, "component_sound _"),
     cases(
         f"{COMPONENT}/ComponentEquality.antt", "pub component_same :", ALL,
-        "component_same ({0.variant} a)", "tells modifiers.{0.field_name} a",
+        "component_same ({0.variant} a)", "reflexive modifiers.{0.field_name} a", width=WIDTH + 2,
     ),
     cases(f"{COMPONENT}/Reserved.antt", "abbrev pub reserved :", TEXTS, case_of_reserved, reserved, "reserved deprecated"),
     cases(

@@ -1,9 +1,7 @@
 pub mod FilesLemmas
 pub mod SourcesLemmas
 pub mod ReportedLemmas
-pub mod AcceptedLemmas
 pub mod TextLemmas
-pub mod OtherLemmas
 pub mod MarkLemmas
 pub mod RewrittenLemmas
 pub mod RuleLemmas

@@ -9,6 +9,7 @@ use Rattle.timefd_lang_fault.specs.Faults.{Fault}
 use Rattle.timefd_lint_rewrite.specs.declared.layout.Layout.{Layout}
 use Rattle.timefd_lint_rewrite.specs.Layouts.{IsRefusedFor}
 use Rattle.timefd_lint_scan.specs.declared.description.SourceDescription.{SourceDescription}
+use Rattle.timefd_lint_scan.specs.declared.own_call.OwnCall.{OwnCall}
 use Rattle.timefd_lint_scan.specs.Found.{AreDescriptionsOf}
 use Rattle.timefd_lint_sources.specs.Judged.{text_of}
 use Rattle.timefd_lint_sources.specs.Rewriting.Changes.{layout_of}
@@ -112,22 +113,22 @@ version_is : (change : Change) (found : Option (Bor Text)) (version : Bor Text)
 version_is change found version same is = sym (ap (λ f. option_map (λ (v : Bor Text). v.now) f) is) ∙ same
 
 -- No description wants to be changed manually.
-pub silent : (change : Change) (name source : Text) (outcomes : List Outcome) (found : Option (Bor Text))
+pub silent : (change : Change) (name source : Text) (own : List OwnCall) (outcomes : List Outcome) (found : Option (Bor Text))
     (version : Bor Text) (any : Bool) (notes : Text)
     → option_map (λ (v : Bor Text). v.now) found ≡ version_of change → found ≡ Some version
     → any ≡ list_any wants_hand outcomes → any ≡ false → notes ≡ []
-    → AreNotes change name source outcomes notes
-silent change name source outcomes found version any notes same is any_is none empty =
-    subst (λ v. AreNotesTo v change name source outcomes notes) (version_is change found version same is)
-    (subst (λ b. AreNotesIf b change version.now name source outcomes notes) (sym none ∙ any_is) empty)
+    → AreNotes change name source own outcomes notes
+silent change name source own outcomes found version any notes same is any_is none empty =
+    subst (λ v. AreNotesTo v change name source own outcomes notes) (version_is change found version same is)
+    (subst (λ b. AreNotesIf b change version.now name source own outcomes notes) (sym none ∙ any_is) empty)
 
 -- Some description does.
-pub noted_all : (change : Change) (name source : Text) (outcomes : List Outcome) (found : Option (Bor Text))
+pub noted_all : (change : Change) (name source : Text) (own : List OwnCall) (outcomes : List Outcome) (found : Option (Bor Text))
     (version : Bor Text) (any : Bool) (ds slice : List SourceDescription)
     → option_map (λ (v : Bor Text). v.now) found ≡ version_of change → found ≡ Some version
-    → any ≡ list_any wants_hand outcomes → any ≡ true → AreDescriptionsOf source ds → slice ≡ ds → (notes : Text)
-    → AreNotesOn change version.now name source slice outcomes [] notes → AreNotes change name source outcomes notes
-noted_all change name source outcomes found version any ds slice same is any_is some all sliced notes noted =
-    subst (λ v. AreNotesTo v change name source outcomes notes) (version_is change found version same is)
-    (subst (λ b. AreNotesIf b change version.now name source outcomes notes) (sym some ∙ any_is)
+    → any ≡ list_any wants_hand outcomes → any ≡ true → AreDescriptionsOf source own ds → slice ≡ ds → (notes : Text)
+    → AreNotesOn change version.now name source slice outcomes [] notes → AreNotes change name source own outcomes notes
+noted_all change name source own outcomes found version any ds slice same is any_is some all sliced notes noted =
+    subst (λ v. AreNotesTo v change name source own outcomes notes) (version_is change found version same is)
+    (subst (λ b. AreNotesIf b change version.now name source own outcomes notes) (sym some ∙ any_is)
     (ds, all, subst (λ l. AreNotesOn change version.now name source l outcomes [] notes) sliced noted))

@@ -1,27 +1,22 @@
 -- What is reported about one text.
-use Rattle.std.proofs.Common.{◌≡◌, List, Option, Result, refl, sym, subst}
+use Rattle.std.proofs.Common.{◌≡◌, Option, Result, refl, sym, subst}
 use Rattle.std.specs.Prelude.{IfOk, OnOk, Ok, Err, IsUtf8}
 use Rattle.std.specs.Io.KnownBytes.{Appends}
-use Rattle.timefd_lang_component.specs.Tree.{Text, Tree}
-use Rattle.timefd_lang_fault.specs.Faults.{fault_of}
-use Rattle.timefd_language.specs.Grammar.{nesting_limit}
-use Rattle.timefd_language.specs.declared.language.Language.{Language}
+use Rattle.timefd_lang_component.specs.Tree.{Text}
 use Rattle.timefd_lint_options.specs.declared.wording.LineLanguage.{LineLanguage}
-use Rattle.timefd_lint_options.specs.declared.wording.LineLanguage.TheVariants.{Own}
-use Rattle.timefd_parse.specs.Language.{SpellsIn, FaultIn}
-use Rattle.timefd_lint_diagnosis.specs.declared.diagnostic.Diagnostic.{Diagnostic}
-use Rattle.timefd_lint_diagnosis.specs.Diagnoses.{IsDiagnosis}
 use Rattle.timefd_lint_drawing.specs.declared.draw.Style.{Style}
-use Rattle.timefd_lint_diagnosis.specs.Further.{AreFurther, most_further, without}
 use Rattle.timefd_lint_drawing.specs.declared.position.Origin.{Origin}
-use Rattle.timefd_lint_drawing.specs.Drawing.{drawn_all}
 use Rattle.timefd_lint_sources.specs.declared.reported.Reporting.{Reporting}
+use Rattle.timefd_lint_sources.specs.declared.verdict.TextPlace.{TextPlace}
+use Rattle.timefd_lint_sources.specs.declared.verdict.TextVerdict.{TextVerdict}
+use Rattle.timefd_lint_sources.specs.declared.verdict.TextVerdict.TheVariants as verdicts
+use Rattle.timefd_lint_sources.specs.Verdicts.{IsVerdict}
 use Rattle.timefd_lint_sources.specs.Whole.{no_text_note}
 use Rattle.timefd_lint.specs.declared.line.LintError.{LintError}
 use Rattle.timefd_lint.specs.declared.line.TextEnd.{TextEnd}
-use Rattle.timefd_lint.specs.declared.line.TextEnd.TheVariants.{Refused, NotText}
-use Rattle.timefd_lint.specs.Lines.{IsEndOf}
-use Rattle.timefd_lint.specs.Reported.{Says}
+use Rattle.timefd_lint.specs.declared.line.TextEnd.TheVariants.{NotText}
+use Rattle.timefd_lint.specs.Lines.{IsEndOf, end_of, place_of}
+use Rattle.timefd_lint.specs.Reported.{IsDrawn, IsMessageOn, Says}
 
 -- A text's end and its message are those of its bytes.
 pub end_of_bytes : (language : LineLanguage) (reporting : Reporting) (bytes text : Text)
@@ -60,41 +55,47 @@ no_text_said language reporting origin bytes before after (Ok e) is written =
     (no_text_note reporting.style origin, refl, written)
 no_text_said language reporting origin bytes before after (Err e) is written = tt
 
--- A text that spells a list.
-pub with_list : (language : Language) (reporting : Reporting) (text : Text)
-    (end : Result TextEnd LintError) → ((list : List Tree) × SpellsIn language nesting_limit text list)
-    → ((list : List Tree) → SpellsIn language nesting_limit text list
-    → IfOk end (IsEndOf (Own language) reporting text))
-    → IfOk end (IsEndOf (Own language) reporting text)
-with_list language reporting text end spelled ended = ended spelled.0 spelled.1
+-- A text that is UTF-8 is judged.
 
--- A text with a fault.
-pub with_fault : (language : Language) (reporting : Reporting) (text : Text) (g : Diagnostic)
-    (end : Result TextEnd LintError) → IsUtf8 text
-    → FaultIn language nesting_limit text (fault_of g.fault) → IfOk end (λ e. e ≡ Refused)
-    → IfOk end (IsEndOf (Own language) reporting text)
-with_fault language reporting text g (Ok e) utf8 faulty is =
-    subst (λ x. IsEndOf (Own language) reporting text x) (sym is) (utf8, (fault_of g.fault, faulty))
-with_fault language reporting text g (Err e) utf8 faulty is = tt
+ended_so : (language : LineLanguage) (reporting : Reporting) (text : Text) (verdict : TextVerdict) → IsUtf8 text
+    → IsVerdict (place_of language) reporting.levels text verdict → IsEndOf language reporting text (end_of verdict)
+ended_so language reporting text (verdicts.Accepted by found) utf8 judged =
+    (utf8, (verdicts.Accepted by found, record { judged = judged; ends = refl }))
+ended_so language reporting text (verdicts.Faulty faults) utf8 judged =
+    (utf8, (verdicts.Faulty faults, record { judged = judged; ends = refl }))
+ended_so language reporting text (verdicts.Right traps) utf8 judged =
+    (utf8, (verdicts.Right traps, record { judged = judged; ends = refl }))
+ended_so language reporting text (verdicts.Refused part) utf8 judged =
+    (utf8, (verdicts.Refused part, record { judged = judged; ends = refl }))
 
-pub fault_said : (language : Language) (reporting : Reporting) (origin : Origin) (text : Text)
-    (g : Diagnostic) (further : List Diagnostic) (before after : Option Text)
-    (end : Result TextEnd LintError)
-    → FaultIn language nesting_limit text (fault_of g.fault) → IsDiagnosis language text g
-    → AreFurther most_further language (without language text (fault_of g.fault)) further
-    → IfOk end (λ e. e ≡ Refused)
-    → OnOk end (Appends before after (drawn_all reporting.style origin text g further))
-    → IfOk end (λ e. Says (Own language) reporting origin text e before after)
-fault_said language reporting origin text g further before after (Ok e) faulty diagnosed others is written =
-    subst (λ x. Says (Own language) reporting origin text x before after) (sym is) (
-      drawn_all reporting.style origin text g further,
-      (
-        g,
-        further,
-        record { first = record { fault = faulty; diagnosis = diagnosed }; further = others },
-        refl,
-      ),
-      written,
-    )
-fault_said language reporting origin text g further before after (Err e) faulty diagnosed others is written =
-    tt
+pub ended : (language : LineLanguage) (reporting : Reporting) (place : TextPlace) (text : Text) (verdict : TextVerdict)
+    (end : TextEnd) → IsUtf8 text → place ≡ place_of language → IsVerdict place reporting.levels text verdict
+    → end ≡ end_of verdict → IsEndOf language reporting text end
+ended language reporting place text verdict end utf8 there judged is =
+    subst (IsEndOf language reporting text) (sym is) (ended_so language reporting text verdict utf8
+    (subst (λ p. IsVerdict p reporting.levels text verdict) there judged))
+
+said_so : (language : LineLanguage) (reporting : Reporting) (origin : Origin) (text : Text) (verdict : TextVerdict)
+    (message : Text) → IsVerdict (place_of language) reporting.levels text verdict
+    → IsDrawn reporting origin text verdict message → IsMessageOn language reporting origin text (end_of verdict) message
+said_so language reporting origin text (verdicts.Accepted by found) message judged drawn =
+    (verdicts.Accepted by found, record { judged = judged; ends = refl }, drawn)
+said_so language reporting origin text (verdicts.Faulty faults) message judged drawn =
+    (verdicts.Faulty faults, record { judged = judged; ends = refl }, drawn)
+said_so language reporting origin text (verdicts.Right traps) message judged drawn =
+    (verdicts.Right traps, record { judged = judged; ends = refl }, drawn)
+said_so language reporting origin text (verdicts.Refused part) message judged drawn =
+    (verdicts.Refused part, record { judged = judged; ends = refl }, drawn)
+
+pub said : (language : LineLanguage) (reporting : Reporting) (origin : Origin) (place : TextPlace) (text : Text)
+    (verdict : TextVerdict) (message bytes : Text) (before after : Option Text) (end : TextEnd)
+    → place ≡ place_of language → IsVerdict place reporting.levels text verdict
+    → IsDrawn reporting origin text verdict message → bytes ≡ message → Appends before after bytes
+    → end ≡ end_of verdict → Says language reporting origin text end before after
+said language reporting origin place text verdict message bytes before after end there judged drawn same written is = (
+  message,
+  subst (λ e. IsMessageOn language reporting origin text e message) (sym is)
+      (said_so language reporting origin text verdict message
+      (subst (λ p. IsVerdict p reporting.levels text verdict) there judged) drawn),
+  subst (λ b. Appends before after b) same written,
+)

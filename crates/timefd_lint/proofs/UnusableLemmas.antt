@@ -72,3 +72,14 @@ of_no_language file text name key error r is named said =
     (subst (λ (n : Text). IfOk r (λ sentence. string_bytes sentence ≡ about file n
     (codes "has no language: it is one of 1, 2, 3, \"strftime\", \"python\", \"c\", \"gnu\", \"chrono\", \"jiff\", \"ruby\", \"java\", \"go\", \"moment\"")))
     named said)
+
+-- A key of calls, or its value, is wrong.
+pub of_key : (file text name what : Text) (made : String Global → ConfigError) (key : String Global) (error : ConfigError)
+    (r : Result (String Global) AllocError) → error ≡ made key → name ≡ string_bytes key
+    → ((sentence : Text) → sentence ≡ about file (string_bytes key) what → IsSaidFor file text (made key) sentence)
+    → IfOk r (λ sentence. string_bytes sentence ≡ about file name what)
+    → IfOk r (λ sentence. IsSaidFor file text error (string_bytes sentence))
+of_key file text name what made key error (Ok sentence) is named reads said =
+    subst (λ (e : ConfigError). IsSaidFor file text e (string_bytes sentence)) (sym is)
+    (reads (string_bytes sentence) (subst (λ (n : Text). string_bytes sentence ≡ about file n what) named said))
+of_key file text name what made key error (Err e) is named reads said = tt

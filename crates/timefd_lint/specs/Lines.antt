@@ -1,45 +1,50 @@
 -- How the check of a text ends.
-use Rattle.std.specs.Prelude.{ℕ, ◌≡◌, List, Option, IsUtf8, IsTrue, IsFalse}
+use Rattle.std.specs.Prelude.{◌≡◌, Option, IsUtf8, IsTrue, IsFalse, length}
 use denote.Ref.{Bor}
-use Rattle.timefd_lang_component.specs.Tree.{Text, Tree}
-use Rattle.timefd_lang_fault.specs.Faults.{Fault}
-use Rattle.timefd_language.specs.Grammar.{nesting_limit}
-use Rattle.timefd_lang_dialect.specs.declared.reason.Reason.{Reason}
-use Rattle.timefd_lang_dialect.specs.Reading.{Piece, Means, RefusedAt}
+use Rattle.timefd_lang_component.specs.Tree.{Text}
 use Rattle.timefd_lint_options.specs.declared.wording.LineLanguage.{LineLanguage}
 use Rattle.timefd_lint_options.specs.declared.wording.LineLanguage.TheVariants.{Own, Other}
-use Rattle.timefd_parse.specs.Language.{SpellsIn, FaultIn}
 use Rattle.timefd_lint_rewrite.specs.Lines.{is_passed_over}
-use Rattle.timefd_lint_warnings.specs.declared.dialects.judging.Judgement.{Judgement}
-use Rattle.timefd_lint_warnings.specs.declared.dialects.judging.Judgement.TheVariants as judgements
+use Rattle.timefd_lint_scan.specs.declared.known.Items.{Items}
 use Rattle.timefd_lint_sources.specs.declared.reported.Reporting.{Reporting}
-use Rattle.timefd_lint_warnings.specs.Found.{found_by}
-use Rattle.timefd_lang_warnings.specs.declared.levels.Levels.{Levels}
+use Rattle.timefd_lint_sources.specs.declared.verdict.RefusedParts.TheVariants.{Unwritable}
+use Rattle.timefd_lint_sources.specs.declared.verdict.TextPlace.{TextPlace}
+use Rattle.timefd_lint_sources.specs.declared.verdict.TextPlace.TheVariants as places
+use Rattle.timefd_lint_sources.specs.declared.verdict.TextVerdict.{TextVerdict}
+use Rattle.timefd_lint_sources.specs.declared.verdict.TextVerdict.TheVariants as verdicts
+use Rattle.timefd_lint_sources.specs.Verdicts.{IsVerdict, levels_of}
 use Rattle.timefd_lint.specs.declared.line.TextEnd.{TextEnd}
 use Rattle.timefd_lint.specs.declared.line.TextEnd.TheVariants.{PassedOver, Accepted, Converted, Refused, NotText, Allowed, Failed, UnreadCall, UnreadValue, WrongComment}
 
--- a text of a language of `time` spells a list, with the list's warnings
-abbrev pub IsAcceptedBy : LineLanguage → Reporting → Text → Levels → Type 0
-IsAcceptedBy (Own language) reporting text found = (list : List Tree) × SpellsIn language nesting_limit text list
-    × (found ≡ found_by reporting.levels language list)
-IsAcceptedBy (Other dialect) reporting text found = ⊥
+-- Where lines in this language stand: they don't take items that `parse` refuses, and each part of a format of another
+-- language is refused for which version 3 has no text.
+abbrev pub place_of : LineLanguage → TextPlace
+place_of (Own language) = places.Own language Items.Refused
+place_of (Other dialect) = places.Other dialect Unwritable
 
--- a format of another language means something that version 3 writes too
-abbrev pub IsConvertedBy : LineLanguage → Text → Type 0
-IsConvertedBy (Own language) text = ⊥
-IsConvertedBy (Other dialect) text = (ps : List Piece) × Means dialect text ps
+-- how the check of a text ends
+abbrev pub end_of : TextVerdict → TextEnd
+end_of (verdicts.Accepted language found) = Accepted (levels_of found)
+end_of (verdicts.Faulty faults) = Refused
+end_of (verdicts.Right traps) = Converted (length traps.items)
+end_of (verdicts.Refused part) = Refused
 
--- a text of a language of `time` has a fault, and a format of another has a part that version 3 can't write
-abbrev pub IsRefusedBy : LineLanguage → Text → Type 0
-IsRefusedBy (Own language) text = (f : Fault) × FaultIn language nesting_limit text f
-IsRefusedBy (Other dialect) text = (reason : Reason) × (index : ℕ) × RefusedAt dialect text reason index
+-- This is what is wrong with a text in its language, and so its check ends.
+pub record IsJudged (language : LineLanguage) (reporting : Reporting) (text : Text) (end : TextEnd) (verdict : TextVerdict)
+    : Type 0 where
+  pub judged : IsVerdict (place_of language) reporting.levels text verdict
+  pub ends : end ≡ end_of verdict
+
+abbrev pub IsEndBy : LineLanguage → Reporting → Text → TextEnd → Type 0
+IsEndBy language reporting text end =
+    IsUtf8 text × ((verdict : TextVerdict) × IsJudged language reporting text end verdict)
 
 -- A text is accepted, converted or refused by its language. Otherwise it isn't UTF-8.
 abbrev pub IsEndOf : LineLanguage → Reporting → Text → TextEnd → Type 0
 IsEndOf language reporting text PassedOver = ⊥
-IsEndOf language reporting text (Accepted found) = IsUtf8 text × IsAcceptedBy language reporting text found
-IsEndOf language reporting text (Converted traps) = IsUtf8 text × IsConvertedBy language text
-IsEndOf language reporting text Refused = IsUtf8 text × IsRefusedBy language text
+IsEndOf language reporting text (Accepted found) = IsEndBy language reporting text (Accepted found)
+IsEndOf language reporting text (Converted traps) = IsEndBy language reporting text (Converted traps)
+IsEndOf language reporting text Refused = IsEndBy language reporting text Refused
 IsEndOf language reporting text NotText = ¬ IsUtf8 text
 IsEndOf language reporting text (Allowed left) = ⊥
 IsEndOf language reporting text Failed = ⊥
@@ -63,8 +68,3 @@ IsLineEnd language comment reporting line Failed = ⊥
 IsLineEnd language comment reporting line UnreadCall = ⊥
 IsLineEnd language comment reporting line UnreadValue = ⊥
 IsLineEnd language comment reporting line WrongComment = ⊥
-
--- How the check of a format of another language ends.
-abbrev pub end_by : Judgement → TextEnd
-end_by (judgements.Converted traps) = Converted traps
-end_by judgements.Refused = Refused

@@ -10,6 +10,7 @@ use Rattle.timefd_language.specs.declared.description_version.DescriptionVersion
 use Rattle.timefd_lint_rewrite.specs.declared.layout.Layout.{Layout}
 use Rattle.timefd_lint_rewrite.specs.Layouts.{IsRefusedFor}
 use Rattle.timefd_lint_scan.specs.declared.description.SourceDescription.{SourceDescription}
+use Rattle.timefd_lint_scan.specs.declared.own_call.OwnCall.{OwnCall}
 use Rattle.timefd_lint_scan.specs.Found.{AreDescriptionsOf}
 use Rattle.timefd_lint_sources.specs.Judged.{text_of}
 use Rattle.timefd_lint_sources.specs.Rewriting.Changes.{layout_of}
@@ -93,20 +94,21 @@ AreNotesOn change version name source (d ∷ ds) (o ∷ os) before after = (midd
     × AreNotesOn change version name source ds os middle after
 
 -- The notes on all descriptions of a source.
-abbrev pub AreNotesIn : Change → Text → Text → Text → List Outcome → Text → Type 0
-AreNotesIn change version name source outcomes notes = (ds : List SourceDescription) × AreDescriptionsOf source ds
+abbrev pub AreNotesIn : Change → Text → Text → Text → List OwnCall → List Outcome → Text → Type 0
+AreNotesIn change version name source own outcomes notes = (ds : List SourceDescription) × AreDescriptionsOf source own ds
     × AreNotesOn change version name source ds outcomes [] notes
 
 -- There are notes if some description wants to be changed manually.
-abbrev pub AreNotesIf : Bool → Change → Text → Text → Text → List Outcome → Text → Type 0
-AreNotesIf false change version name source outcomes notes = notes ≡ []
-AreNotesIf true change version name source outcomes notes = AreNotesIn change version name source outcomes notes
+abbrev pub AreNotesIf : Bool → Change → Text → Text → Text → List OwnCall → List Outcome → Text → Type 0
+AreNotesIf false change version name source own outcomes notes = notes ≡ []
+AreNotesIf true change version name source own outcomes notes = AreNotesIn change version name source own outcomes notes
 
-abbrev pub AreNotesTo : Option Text → Change → Text → Text → List Outcome → Text → Type 0
-AreNotesTo None change name source outcomes notes = notes ≡ []
-AreNotesTo (Some version) change name source outcomes notes =
-    AreNotesIf (list_any wants_hand outcomes) change version name source outcomes notes
+abbrev pub AreNotesTo : Option Text → Change → Text → Text → List OwnCall → List Outcome → Text → Type 0
+AreNotesTo None change name source own outcomes notes = notes ≡ []
+AreNotesTo (Some version) change name source own outcomes notes =
+    AreNotesIf (list_any wants_hand outcomes) change version name source own outcomes notes
 
--- The notes on the descriptions of a source with these outcomes. There is none if nothing is converted.
-abbrev pub AreNotes : Change → Text → Text → List Outcome → Text → Type 0
-AreNotes change name source outcomes notes = AreNotesTo (version_of change) change name source outcomes notes
+-- The notes on the descriptions of a source, with these calls of its project, that have these outcomes. There is none if nothing is
+-- converted.
+abbrev pub AreNotes : Change → Text → Text → List OwnCall → List Outcome → Text → Type 0
+AreNotes change name source own outcomes notes = AreNotesTo (version_of change) change name source own outcomes notes

@@ -41,13 +41,14 @@ pub record AreFilesOf (lists : Text → List FolderEntry → Type 0) (holds : Te
   pub but : IsExcludedBy named.project excluded
   pub expanded : AreExpanded (IsWalkBut ends excluded lists holds) (IsKept excluded) folders named.names.now files
 
--- The keys and levels of the command line come first, then those of the names' file of settings.
+-- The keys and levels of the command line come first, then those of the names' file of settings, which also names the calls.
 pub record IsPartOf (lists : Text → List FolderEntry → Type 0) (holds : Text → Text → Type 0) (folders : Text → Bool → Type 0)
     (settings : RunSettings) (keys : List DescriptionKey) (named : Named) (part : RunPart) : Type 0 where
   pub settings_are : part.settings
       ≡ with_levels settings (counted_levels (rewriting_of settings) named.project.config.levels)
   pub keys_are : named_all part.keys.items ≡ named_all keys
       ++ configs.named_all (counted_keys (rewriting_of settings) named.project.config.keys.items)
+  pub calls_are : part.calls.now ≡ named.project.config.calls.items
   pub input : part.reads_input ≡ (length named.names.now == 0)
   pub files_are : AreFilesOf lists holds folders settings part.keys.items named (map string_bytes part.files.items)
 
@@ -68,7 +69,7 @@ IsUnwalked fails named error = IsWalkError fails (IsBelowAny named.names.now) 25
 abbrev pub IsOneUnwalked : (Text → ErrorKind → Type 0) → List Named → WalkError → Type 0
 IsOneUnwalked fails all error = OneOf (λ named. IsUnwalked fails named error) all
 
--- The options of a run have these settings, keys and files.
+-- The options of a run have these settings, keys, calls and files.
 pub record AreOptions (is_colored : Bool) (part : RunPart) (files : List (Bor Text)) (options : RunOptions) : Type 0 where
   pub language : options.language ≡ part.settings.language
   pub format : options.reporting.style.format ≡ part.settings.format
@@ -80,6 +81,7 @@ pub record AreOptions (is_colored : Bool) (part : RunPart) (files : List (Bor Te
   pub levels : options.reporting.levels ≡ (if part.settings.warns then Some part.settings.levels else None)
   pub allows : options.reporting.allows ≡ is_none (rewriting_of part.settings)
   pub keys : options.keys.now ≡ part.keys.items
+  pub calls : options.calls.now ≡ part.calls.now
   pub same_files : options.files.now ≡ files
 
 -- No file is named, and the input isn't read.

@@ -24,7 +24,7 @@ pub record IsProjectOf (here : Text) (found : Nearest) (project : Project) : Typ
 
 -- Nothing is set.
 pub record SaysNothing (project : Project) : Type 0 where
-  pub says : said project.config ≡ record { keys = []; exclude = []; levels = None }
+  pub says : said project.config ≡ record { keys = []; exclude = []; levels = None; calls = [] }
   pub folder : string_bytes project.folder ≡ []
   pub front : project.front.items ≡ []
 

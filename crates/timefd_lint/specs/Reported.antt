@@ -5,12 +5,9 @@ use Rattle.std.specs.Io.KnownBytes.{Appends, Keeps, IsAtEnd}
 use Rattle.std.specs.Io.Iter.{u64_saturate}
 use denote.Ref.{Bor}
 use Rattle.timefd_lang_component.specs.Tree.{Text}
-use Rattle.timefd_language.specs.declared.language.Language.{Language}
 use Rattle.timefd_lint_options.specs.declared.wording.LineLanguage.{LineLanguage}
-use Rattle.timefd_lint_options.specs.declared.wording.LineLanguage.TheVariants.{Own, Other}
-use Rattle.timefd_lint_warnings.specs.Dialects.Judging.{AreTrapsDrawn, IsRefusalDrawn}
+use Rattle.timefd_lint_warnings.specs.Dialects.Judging.{refusal_drawn, trap_drawn}
 use Rattle.timefd_lint_diagnosis.specs.declared.diagnostic.Diagnostic.{Diagnostic}
-use Rattle.timefd_lint_diagnosis.specs.Further.{AreDiagnosed}
 use Rattle.timefd_lint.specs.declared.failure.Failure.{Failure}
 use Rattle.timefd_lint.specs.declared.line.TextEnd.{TextEnd}
 use Rattle.timefd_lint.specs.declared.line.TextEnd.TheVariants.{PassedOver, Accepted, Converted, Refused, NotText, Allowed, Failed, UnreadCall, UnreadValue, WrongComment}
@@ -18,70 +15,54 @@ use Rattle.timefd_lint.specs.declared.tally.LintTally.{LintTally}
 use Rattle.timefd_lint_drawing.specs.declared.draw.Style.{Style}
 use Rattle.timefd_lint_drawing.specs.declared.position.Origin.{Origin}
 use Rattle.timefd_lint_drawing.specs.Drawing.{drawn_all}
-use Rattle.timefd_lint_explain.specs.Lines.{IsExplainedIf}
 use Rattle.timefd_lang_warnings.specs.declared.levels.Level.TheVariants.{Warned, Denied}
 use Rattle.timefd_lang_warnings.specs.declared.levels.Levels.{Levels}
 use Rattle.timefd_lang_warnings.specs.Levels.{count as warning_count}
-use Rattle.timefd_lint_warnings.specs.Messages.{messages as warning_messages}
 use Rattle.timefd_lint_sources.specs.declared.reported.Reporting.{Reporting}
-use Rattle.timefd_lint_sources.specs.Whole.{no_text_note}
+use Rattle.timefd_lint_sources.specs.declared.verdict.TextVerdict.{TextVerdict}
+use Rattle.timefd_lint_sources.specs.declared.verdict.TextVerdict.TheVariants as verdicts
+use Rattle.timefd_lint_sources.specs.Verdicts.{levels_of}
+use Rattle.timefd_lint_sources.specs.Whole.{IsTreeWithWarnings, no_text_note}
 use Rattle.timefd_lint_rewrite.specs.Lines.{AreLinesOf, IsNextLine, without_newline}
 use Rattle.timefd_lint.specs.Failures.{IsUnreadNote, note_of}
-use Rattle.timefd_lint.specs.Lines.{IsEndOf, IsLineEnd}
+use Rattle.timefd_lint.specs.Lines.{IsEndOf, IsJudged, IsLineEnd}
 use Rattle.timefd_lint.specs.Marks.{IsNote, has_mark}
 
--- the tree of a text, byte for byte, if it is asked for
-abbrev pub IsTreeOf : Language → Bool → Origin → Text → Text → Type 0
-IsTreeOf language explains origin text tree =
-    IsExplainedIf explains language origin.file.now origin.line text tree
+-- the drawings of a text's first fault and of the further ones, each at its position
+abbrev pub faults_drawn : Style → Origin → Text → List Diagnostic → Text
+faults_drawn style origin text [] = []
+faults_drawn style origin text (g ∷ further) = drawn_all style origin text g further
 
--- An accepted text's message is its tree, if that is asked for, and then each of its warnings that is
--- reported, at its position and in the order of the codes, and nothing else.
-abbrev pub IsTreeAndWarnings : Language → Reporting → Origin → Levels → Text → Text → Type 0
-IsTreeAndWarnings language reporting origin found text message = (tree : Text)
-    × (message ≡ tree ++ warning_messages reporting.style origin text found)
-    × IsTreeOf language reporting.explains origin text tree
-
--- The tree of a text is written, if it is asked for, and nothing else is.
-abbrev pub WritesTree : Language → Bool → Origin → Text → Option Text → Option Text → Type 0
-WritesTree language explains origin text before after = (tree : Text)
-    × IsTreeOf language explains origin text tree × Appends before after tree
-
--- A refused text's message draws its first fault and the further ones, each at its position.
-abbrev pub IsDrawing : Language → Style → Origin → Text → Text → Type 0
-IsDrawing language style origin text message = (g : Diagnostic) × (further : List Diagnostic)
-    × AreDiagnosed language text g further × (message ≡ drawn_all style origin text g further)
+-- The message on what is wrong with a text, which is a whole with its own first line and column.
+abbrev pub IsDrawn : Reporting → Origin → Text → TextVerdict → Text → Type 0
+IsDrawn reporting origin text (verdicts.Accepted language found) message =
+    IsTreeWithWarnings reporting origin text (record { start = 0; end = length text }) text 1 language (levels_of found)
+    message
+IsDrawn reporting origin text (verdicts.Faulty faults) message =
+    message ≡ faults_drawn reporting.style origin text faults.items
+IsDrawn reporting origin text (verdicts.Right traps) message =
+    message ≡ flat_map (trap_drawn reporting.style origin text) traps.items
+IsDrawn reporting origin text (verdicts.Refused part) message =
+    message ≡ refusal_drawn reporting.style origin text part.reason part.index
 
 -- The message on a file that fails is the note on why.
 abbrev pub IsFailureNote : Style → Bor Text → Text → Type 0
 IsFailureNote style file message = (failure : Failure) × (message ≡ note_of style file failure)
 
-abbrev pub IsMessageOnAccepted : LineLanguage → Reporting → Origin → Levels → Text → Text → Type 0
-IsMessageOnAccepted (Own language) reporting origin found text message =
-    IsTreeAndWarnings language reporting origin found text message
-IsMessageOnAccepted (Other dialect) reporting origin found text message = ⊥
-
--- The message on a format of another language: a warning on each trap, in order, if warnings are reported.
-abbrev pub IsMessageOnConverted : LineLanguage → Reporting → Origin → ℕ → Text → Text → Type 0
-IsMessageOnConverted (Own language) reporting origin traps text message = ⊥
-IsMessageOnConverted (Other dialect) reporting origin traps text message =
-    AreTrapsDrawn (is_some reporting.levels) reporting.style origin dialect text traps message
-
--- What is wrong with a text: its faults, or the part of a format of another language that is refused.
-abbrev pub IsMessageOnRefused : LineLanguage → Style → Origin → Text → Text → Type 0
-IsMessageOnRefused (Own language) style origin text message = IsDrawing language style origin text message
-IsMessageOnRefused (Other dialect) style origin text message =
-    IsRefusalDrawn style origin dialect text message
+-- The message on a text with this end.
+abbrev pub IsMessageBy : LineLanguage → Reporting → Origin → Text → TextEnd → Text → Type 0
+IsMessageBy language reporting origin text end message = (verdict : TextVerdict)
+    × IsJudged language reporting text end verdict × IsDrawn reporting origin text verdict message
 
 -- The message on a text. A text that is passed over has none.
 abbrev pub IsMessageOn : LineLanguage → Reporting → Origin → Text → TextEnd → Text → Type 0
 IsMessageOn language reporting origin text PassedOver message = message ≡ []
 IsMessageOn language reporting origin text (Accepted found) message =
-    IsMessageOnAccepted language reporting origin found text message
+    IsMessageBy language reporting origin text (Accepted found) message
 IsMessageOn language reporting origin text (Converted traps) message =
-    IsMessageOnConverted language reporting origin traps text message
+    IsMessageBy language reporting origin text (Converted traps) message
 IsMessageOn language reporting origin text Refused message =
-    IsMessageOnRefused language reporting.style origin text message
+    IsMessageBy language reporting origin text Refused message
 IsMessageOn language reporting origin text NotText message =
     message ≡ no_text_note reporting.style origin
 IsMessageOn language reporting origin text (Allowed left) message = ⊥

@@ -33,13 +33,13 @@ pub record IsFileRewritten (change : Change) (finder : Finder) (source : Text) (
 
 -- The notes on what has to be changed manually: on literals of Rust, or on values whose new texts no string can hold.
 abbrev pub AreManualNotes : Change → Finder → Text → Text → List Outcome → Text → Type 0
-AreManualNotes change Rust name source outcomes notes = AreNotes change name source outcomes notes
+AreManualNotes change (Rust calls) name source outcomes notes = AreNotes change name source calls.now outcomes notes
 AreManualNotes change (Keys format keys) name source outcomes notes = (values : List SourceDescription)
     × AreAllValues format source keys.now values × (notes ≡ unwritable name source values outcomes)
 
 -- The notes on values that version 3 writes alike for some moments alone.
 abbrev pub AreNotesOnLimits : Change → Finder → Text → Text → Text → Type 0
-AreNotesOnLimits change Rust name source notes = notes ≡ []
+AreNotesOnLimits change (Rust calls) name source notes = notes ≡ []
 AreNotesOnLimits change (Keys format keys) name source notes = (values : List SourceDescription)
     × AreAllValues format source keys.now values × AreLimits change name source values [] notes
 

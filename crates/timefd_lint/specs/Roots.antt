@@ -62,7 +62,8 @@ IsRootUnset holds fails folders here root (Wrong sentence) = (path : Option (Str
 abbrev pub levels_of : RunSettings → Option Levels
 levels_of settings = if settings.warns then Some settings.levels else None
 
--- An editor that has a folder open is served by the keys and levels of the command line, and those of that file after them.
+-- An editor that has a folder open is served by the keys and levels of the command line, and those of that file after them, and by
+-- the calls of that file.
 pub record IsServedBy (holds : Text → Text → Type 0) (fails : Text → ErrorKind → Type 0) (folders : Text → Bool → Type 0)
     (settings : RunSettings) (keys : List DescriptionKey) (here : Text) (server : Server)
     (left written left_then written_then : Option Text) (end : SessionEnd) : Type 0 where
@@ -71,6 +72,7 @@ pub record IsServedBy (holds : Text → Text → Type 0) (fails : Text → Error
   pub served : editors.EditorSettings
   pub keys_are : named_all served.keys.now ≡ named_all keys
       ++ configs.named_all (counted_keys (rewriting_of settings) project.config.keys.items)
+  pub calls_are : served.calls.now ≡ project.config.calls.items
   pub levels_are : served.levels
       ≡ levels_of (with_levels settings (counted_levels (rewriting_of settings) project.config.levels))
   pub session : IsServedFrom served server left written left_then written_then end

@@ -41,12 +41,12 @@ abbrev pub is_source : RunOptions → Text → Bool
 is_source options name = is_rust options name || has_keys options name
 
 abbrev pub finder_by : RunOptions → Option FileFormat → Finder
-finder_by options None = Rust
+finder_by options None = Rust options.calls
 finder_by options (Some format) = Keys format options.keys
 
 -- how the descriptions are found in a file with this name
 abbrev pub finder_of : RunOptions → Text → Finder
-finder_of options name = if is_rust options name then Rust else finder_by options (format_named name)
+finder_of options name = if is_rust options name then Rust options.calls else finder_by options (format_named name)
 
 -- whether one of these files is read as a source; without files, whether the input is
 abbrev pub any_source : RunOptions → List (Bor Text) → Bool

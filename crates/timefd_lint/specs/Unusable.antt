@@ -21,7 +21,7 @@ use Rattle.timefd_lint_files.specs.Groups.{AreGroups, IsUnreadFor, IsUnreadForAn
 use Rattle.timefd_lint_files.specs.Upwards.{front_below}
 use Rattle.timefd_lint_options.specs.declared.config.error.ConfigError.{ConfigError}
 use Rattle.timefd_lint_options.specs.Config.Config.{config_of}
-use Rattle.timefd_lint_options.specs.Config.Faults.{Fault, NotToml, UnknownName, KeysNotATable, EmptyName, WrongType, UnknownLanguage, NotAList, NotAPattern, LevelsNotATable, UnknownWarning, NoLevel, UnknownLevel, fault}
+use Rattle.timefd_lint_options.specs.Config.Faults.{Fault, NotToml, UnknownName, KeysNotATable, EmptyName, WrongType, UnknownLanguage, NotAList, NotAPattern, LevelsNotATable, UnknownWarning, NoLevel, UnknownLevel, CallsNotATable, NotACall, NoArgument, UnknownCallLanguage, NoNumber, fault}
 use Rattle.timefd_lint.specs.declared.config.ConfigFailure.{ConfigFailure}
 use Rattle.timefd_lint.specs.declared.config.ConfigFailure.TheVariants.{Memory, Wrong}
 use Rattle.timefd_lint.specs.NoCodes.{IsNoLevel, IsNoWarning}
@@ -88,7 +88,7 @@ IsOnLevel file warning word sentence =
 abbrev pub IsSaidOf : Text → Text → Fault → Text → Type 0
 IsSaidOf file text NotToml sentence = IsNotToml file text sentence
 IsSaidOf file text (UnknownName name) sentence = sentence
-    ≡ about file name (codes "means nothing here: the settings are `exclude`, `[keys]` and `[levels]`")
+    ≡ about file name (codes "means nothing here: the settings are `exclude`, `[keys]`, `[levels]` and `[calls]`")
 IsSaidOf file text KeysNotATable sentence = sentence ≡ wrong file (codes "`keys` isn't a table")
 IsSaidOf file text LevelsNotATable sentence = sentence ≡ wrong file (codes "`levels` isn't a table")
 IsSaidOf file text NotAList sentence = sentence ≡ wrong file (codes "`exclude` isn't a list")
@@ -103,6 +103,15 @@ IsSaidOf file text (WrongType name) sentence =
     sentence ≡ about file name (codes "has neither a number nor a string for its language")
 IsSaidOf file text (UnknownLanguage name) sentence = sentence ≡ about file name
     (codes "has no language: it is one of 1, 2, 3, \"strftime\", \"python\", \"c\", \"gnu\", \"chrono\", \"jiff\", \"ruby\", \"java\", \"go\", \"moment\"")
+IsSaidOf file text CallsNotATable sentence = sentence ≡ wrong file (codes "`calls` isn't a table")
+IsSaidOf file text (NotACall key) sentence = sentence
+    ≡ about file key (codes "isn't the name of a call: write one like `parse_date` or `DateBased::new`")
+IsSaidOf file text (NoArgument key) sentence = sentence ≡ about file key
+    (codes "has no string like \"chrono:1\": the language of its format, and which argument that is, counted from 0")
+IsSaidOf file text (UnknownCallLanguage key) sentence = sentence ≡ about file key
+    (codes "has no language before its colon: it is one of 1, 2, 3, strftime, python, c, gnu, chrono, jiff, ruby, java, go, moment")
+IsSaidOf file text (NoNumber key) sentence = sentence ≡ about file key
+    (codes "has no number from 0 to 9 after its colon: write which argument the format is, counted from 0")
 
 -- The sentence on an error. There is none on want of memory.
 abbrev pub IsSaidIf : Text → Text → Option Fault → Text → Type 0

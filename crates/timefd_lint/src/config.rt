@@ -75,6 +75,7 @@ fn no_project(alloc: Global) -> Project
             keys: Vec::new(alloc),
             exclude: String::new(alloc),
             levels: None,
+            calls: Vec::new(alloc),
         },
         folder: String::new(alloc),
         front: Vec::new(alloc),

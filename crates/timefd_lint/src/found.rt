@@ -192,7 +192,7 @@ fn manual_in(
         source.entry.text.now outcomes.now (string_bytes notes)) }
 {
     match source.finder {
-        Finder::Rust => notes(alloc, change, source.file, source.text, outcomes),
+        Finder::Rust(calls) => notes(alloc, change, source.file, source.text, calls, outcomes),
         Finder::Keys(format, keys) => {
             let values = descriptions_by(alloc, format, source.text, keys)?;
             unwritable(alloc, source.file, source.text, &values, outcomes)
@@ -206,7 +206,7 @@ fn limits_in(alloc: Global, change: Change, source: SourceText<'_>) -> Result<St
         source.entry.text.now (string_bytes notes)) }
 {
     match source.finder {
-        Finder::Rust => Ok(String::new(alloc)),
+        Finder::Rust(_) => Ok(String::new(alloc)),
         Finder::Keys(format, keys) => {
             let values = descriptions_by(alloc, format, source.text, keys)?;
             limits_of_values(alloc, change, source.file, source.text, &values)

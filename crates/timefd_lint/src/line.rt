@@ -1,33 +1,25 @@
 //! One text of a file.
 
-ghost use Rattle.std.specs.Prelude.{◌≡◌, List, IfErr, IfOk, OnOk};
+ghost use Rattle.std.specs.Prelude.{◌≡◌, IfErr, IfOk, OnOk};
 ghost use Rattle.std.specs.Io.KnownBytes.{Appends};
-ghost use Rattle.timefd_lang_component.specs.Tree.{Tree};
-ghost use Rattle.timefd_lint_drawing.specs.Drawing as drawing;
-ghost use Rattle.timefd_language.specs.Grammar.{nesting_limit};
-ghost use Rattle.timefd_parse.specs.Language.{SpellsIn};
 ghost use Rattle.timefd_lint_sources.specs.Whole.{no_text_note};
 ghost use Rattle.timefd_lint.specs.declared.line.TextEnd.TheVariants as ends;
 ghost use Rattle.timefd_lint.specs.Causes.{IsCausedBy};
-ghost use Rattle.timefd_lint.specs.Lines.{IsEndOf, IsLineEnd, end_by};
-ghost use Rattle.timefd_lint_options.specs.declared.wording.LineLanguage.TheVariants.{Own, Other};
-ghost use Rattle.timefd_lint.specs.Reported.{Says, WritesTree};
+ghost use Rattle.timefd_lint.specs.Lines as spec;
+ghost use Rattle.timefd_lint.specs.Lines.{IsEndOf, IsLineEnd};
+ghost use Rattle.timefd_lint.specs.Reported.{Says};
 
+use crate::drawn::drawn;
 use crate::options::RunOptions;
 use std::alloc::{AllocError, Global};
 use std::str;
 use timefd_bin_streams::{Failed, Sink};
-use timefd_lang_dialect::Dialect;
-use timefd_lang_warnings::{Level, Levels};
-use timefd_lint_diagnosis::{Diagnostic, MOST_FURTHER, diagnose, further_faults};
-use timefd_lint_drawing::{Origin, Style, drawn_all, note};
-use timefd_lint_explain::explained;
+use timefd_lang_warnings::Levels;
+use timefd_lint_drawing::{Origin, note};
 use timefd_lint_options::LineLanguage;
 use timefd_lint_rewrite::is_passed_over;
-use timefd_lint_sources::{Left, Reporting};
-use timefd_lint_warnings::dialects::{JudgedFormat, Judgement, judge};
-use timefd_lint_warnings::{found_in, messages};
-use timefd_parse::Language;
+use timefd_lint_scan::Items;
+use timefd_lint_sources::{Left, RefusedParts, TextPlace, TextVerdict, judge, levels_of};
 
 /// Why a run ends before its last text.
 #[derive(Clone, Copy)]
@@ -115,7 +107,7 @@ pub fn lint_text<W: Sink>(
 }
 
 // Checks a text that is UTF-8.
-#[tactic(auto, using(crate::proofs::OtherLemmas::end_as, crate::proofs::OtherLemmas::said_as))]
+#[tactic(auto, using(crate::proofs::TextLemmas::ended, crate::proofs::TextLemmas::said))]
 fn judged<W: Sink>(
     alloc: Global,
     options: RunOptions<'_>,
@@ -128,104 +120,33 @@ fn judged<W: Sink>(
         text.now end (W.contents writer.old) (W.contents writer.new)) }
     ensures unwritten { IfErr result (IsCausedBy (W.has_failed writer.new)) }
 {
-    match options.language {
-        LineLanguage::Own(language) => {
-            own_judged(alloc, language, options.reporting, origin, text, writer)
-        }
-        LineLanguage::Other(dialect) => {
-            other_judged(alloc, dialect, options.reporting, origin, text, writer)
-        }
-    }
-}
-
-// Checks a text of a language of `time`.
-#[tactic(auto, using(crate::proofs::TextLemmas::with_list, crate::proofs::TextLemmas::with_fault, crate::proofs::TextLemmas::fault_said))]
-fn own_judged<W: Sink>(
-    alloc: Global,
-    language: Language,
-    reporting: Reporting,
-    origin: Origin<'_>,
-    text: &str,
-    writer: &mut W,
-) -> Result<TextEnd, LintError>
-    ensures end { IfOk result (IsEndOf (Own language) reporting text.now) }
-    ensures said { IfOk result (λ end. Says (Own language) reporting origin.entry
-        text.now end (W.contents writer.old) (W.contents writer.new)) }
-    ensures unwritten { IfErr result (IsCausedBy (W.has_failed writer.new)) }
-{
-    match diagnose(alloc, language, text)? {
-        None => accepted(alloc, language, reporting, origin, text, writer),
-        Some(diagnostic) => {
-            let further = further_faults(alloc, language, text, &diagnostic, MOST_FURTHER)?;
-            refused(
-                alloc,
-                reporting.style,
-                origin,
-                text,
-                &diagnostic,
-                &further,
-                writer,
-            )
-        }
-    }
-}
-
-// Checks a format of another language.
-#[tactic(auto, using(crate::proofs::OtherLemmas::other_end, crate::proofs::OtherLemmas::other_said))]
-fn other_judged<W: Sink>(
-    alloc: Global,
-    dialect: Dialect,
-    reporting: Reporting,
-    origin: Origin<'_>,
-    text: &str,
-    writer: &mut W,
-) -> Result<TextEnd, LintError>
-    ensures end { IfOk result (IsEndOf (Other dialect) reporting text.now) }
-    ensures said { IfOk result (λ end. Says (Other dialect) reporting origin.entry
-        text.now end (W.contents writer.old) (W.contents writer.new)) }
-    ensures unwritten { IfErr result (IsCausedBy (W.has_failed writer.new)) }
-{
-    let reports_traps = reporting.levels.is_some();
-    let JudgedFormat { judgement, message } = judge(
-        alloc,
-        reporting.style,
-        origin,
-        reports_traps,
-        dialect,
-        text,
-    )?;
+    let place = place_of(options.language);
+    let verdict = judge(alloc, place, options.reporting.levels, text)?;
+    let message = drawn(alloc, options.reporting, origin, text, &verdict)?;
     write(writer, &message)?;
-    Ok(end_of(judgement))
+    Ok(end_of(&verdict))
 }
 
-// How the check of a format of another language ends.
-fn end_of(judgement: Judgement) -> TextEnd
-    ensures { result ≡ end_by judgement }
+// Where lines in this language stand. They don't take items that `parse` refuses, and each part of a format of another
+// language is refused for which version 3 has no text.
+fn place_of(language: LineLanguage) -> TextPlace
+    ensures { result ≡ spec.place_of language }
 {
-    match judgement {
-        Judgement::Converted(traps) => TextEnd::Converted(traps),
-        Judgement::Refused => TextEnd::Refused,
+    match language {
+        LineLanguage::Own(language) => TextPlace::Own(language, Items::Refused),
+        LineLanguage::Other(dialect) => TextPlace::Other(dialect, RefusedParts::Unwritable),
     }
 }
 
-// Writes all that is wrong with a refused text.
-fn refused<W: Sink>(
-    alloc: Global,
-    style: Style,
-    origin: Origin<'_>,
-    text: &str,
-    diagnostic: &Diagnostic,
-    further: &[Diagnostic],
-    writer: &mut W,
-) -> Result<TextEnd, LintError>
-    ensures end { IfOk result (λ end. end ≡ ends.Refused) }
-    ensures written { OnOk result (Appends (W.contents writer.old) (W.contents writer.new)
-        (drawing.drawn_all style origin.entry text.now diagnostic.now further.now)) }
-    ensures unwritten { IfErr result (IsCausedBy (W.has_failed writer.new)) }
+// How the check of a text ends.
+fn end_of(verdict: &TextVerdict) -> TextEnd
+    ensures { result ≡ spec.end_of verdict.now }
 {
-    let message = drawn_all(alloc, style, origin, text, diagnostic, further)?;
-    write(writer, &message)?;
-    Ok(TextEnd::Refused)
+    match verdict {
+        TextVerdict::Accepted(_, found) => TextEnd::Accepted(levels_of(*found)),
+        TextVerdict::Right(traps) => TextEnd::Converted(traps.len() as u64),
+        TextVerdict::Faulty(_) | TextVerdict::Refused(_) => TextEnd::Refused,
+    }
 }
 
 // Notes that a text isn't UTF-8.
@@ -249,52 +170,6 @@ fn not_text<W: Sink>(
     )?;
     write(writer, &message)?;
     Ok(TextEnd::NotText)
-}
-
-// Writes the tree of an accepted text, if it is asked for, and then the warnings that are reported.
-fn accepted<W: Sink>(
-    alloc: Global,
-    language: Language,
-    reporting: Reporting,
-    origin: Origin<'_>,
-    text: &str,
-    writer: &mut W,
-) -> Result<TextEnd, LintError>
-    ensures end { (list : List Tree) → SpellsIn language nesting_limit text.now list
-        → IfOk result (IsEndOf (Own language) reporting text.now) }
-    ensures said { IfOk result (λ end. Says (Own language) reporting origin.entry
-        text.now end (W.contents writer.old) (W.contents writer.new)) }
-    ensures unwritten { IfErr result (IsCausedBy (W.has_failed writer.new)) }
-{
-    write_tree(alloc, language, reporting.explains, origin, text, writer)?;
-    let Some(levels) = reporting.levels else {
-        return Ok(TextEnd::Accepted(Levels::all_at(Level::Allowed)));
-    };
-    let found = found_in(alloc, language, text, levels)?;
-    let reported = messages(alloc, reporting.style, origin, text, found)?;
-    write(writer, &reported)?;
-    Ok(TextEnd::Accepted(found))
-}
-
-// Writes the tree of an accepted text, if it is asked for.
-#[tactic(auto, using(crate::proofs::AcceptedLemmas::tree_written, crate::proofs::AcceptedLemmas::no_tree))]
-fn write_tree<W: Sink>(
-    alloc: Global,
-    language: Language,
-    explains: bool,
-    origin: Origin<'_>,
-    text: &str,
-    writer: &mut W,
-) -> Result<(), LintError>
-    ensures written { OnOk result (WritesTree language explains origin.entry text.now
-        (W.contents writer.old) (W.contents writer.new)) }
-    ensures unwritten { IfErr result (IsCausedBy (W.has_failed writer.new)) }
-{
-    if explains {
-        let tree = explained(alloc, language, origin, text)?;
-        write(writer, tree.as_bytes())?;
-    }
-    Ok(())
 }
 
 /// Writes all of the bytes.

@@ -7,6 +7,7 @@ mod all_codes;
 mod arguments;
 mod color;
 mod config;
+mod drawn;
 mod error_code;
 mod error_page;
 mod failure;

@@ -15,12 +15,12 @@ use crate::manual::text::new_text;
 use std::alloc::{AllocError, Global};
 use timefd_lint_drawing::position_of;
 use timefd_lint_drawing::shown::safe;
-use timefd_lint_scan::{SourceDescription, descriptions_of};
+use timefd_lint_scan::{OwnCall, SourceDescription, descriptions_of};
 use timefd_lint_sources::FIRST_LINE;
 use timefd_lint_sources::rewriting::{Change, Outcome};
 use timefd_parse::DescriptionVersion;
 
-/// One line for each description of a source that has to be changed manually: no number says its version, its
+/// One line for each description of a source, with these calls of its project, that has to be changed manually: no number says its version, its
 /// literal can't hold the converted text, or no conversion takes it. The line says where the description is,
 /// why it stays, and what it would become. There is none where files are mended.
 ///
@@ -30,9 +30,10 @@ pub fn notes(
     change: Change,
     name: &str,
     source: &str,
+    calls: &[OwnCall],
     outcomes: &[Outcome],
 ) -> Result<String, AllocError>
-    ensures { IfOk result (λ notes. spec.AreNotes change name.now source.now outcomes.now
+    ensures { IfOk result (λ notes. spec.AreNotes change name.now source.now calls.now outcomes.now
         (string_bytes notes)) }
 {
     let Some(version) = version_of(change) else {
@@ -41,7 +42,7 @@ pub fn notes(
     if !any_wants_hand(outcomes) {
         return Ok(String::new(alloc));
     }
-    let descriptions = descriptions_of(alloc, source)?;
+    let descriptions = descriptions_of(alloc, source, calls)?;
     notes_on(
         alloc,
         change,

@@ -7,6 +7,7 @@ use crate::rewriting::rewriting_of;
 use timefd_lang_warnings::Levels;
 use timefd_lint_drawing::Style;
 use timefd_lint_options::{LineLanguage, RunSettings};
+use timefd_lint_scan::OwnCall;
 use timefd_lint_scan::keys::DescriptionKey;
 use timefd_lint_sources::Reporting;
 
@@ -25,6 +26,8 @@ pub struct RunOptions<'a> {
     pub is_source: bool,
     /// The keys whose strings are checked in TOML, JSON and YAML.
     pub keys: &'a [DescriptionKey<'a>],
+    /// The calls of the project whose arguments are checked in sources of Rust.
+    pub calls: &'a [OwnCall],
     /// The names of the files. If there are none, the standard input is read.
     pub files: &'a [&'a str],
 }
@@ -38,11 +41,12 @@ impl RunOptions<'_> {
     }
 }
 
-/// The options of a run, by its settings, its keys and its files.
+/// The options of a run, by its settings, its keys, the calls of its project and its files.
 pub fn run_options<'a>(
     settings: RunSettings<'a>,
     is_colored: bool,
     keys: &'a [DescriptionKey<'a>],
+    calls: &'a [OwnCall],
     files: &'a [&'a str],
 ) -> RunOptions<'a>
     ensures language { result.language ≡ settings.entry.language }
@@ -56,6 +60,7 @@ pub fn run_options<'a>(
         else None) }
     ensures allows { result.reporting.allows ≡ is_none (rewriting_of settings.entry) }
     ensures keys { result.keys.now ≡ keys.now }
+    ensures calls { result.calls.now ≡ calls.now }
     ensures files { result.files.now ≡ files.now }
 {
     RunOptions {
@@ -73,6 +78,7 @@ pub fn run_options<'a>(
         is_whole: settings.is_whole,
         is_source: settings.is_source,
         keys,
+        calls,
         files,
     }
 }

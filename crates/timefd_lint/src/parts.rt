@@ -17,13 +17,15 @@ use std::alloc::{AllocError, Global};
 use timefd_lint_files::{FileSystem, WalkError, expanded};
 use timefd_lint_options::RunSettings;
 use timefd_lint_options::config::{OwnedKey, same_keys, with_keys, with_levels};
+use timefd_lint_scan::OwnCall;
 use timefd_lint_scan::keys::DescriptionKey;
 
-/// Files, and the settings and keys that they are checked by.
+/// Files, and the settings, keys and calls that they are checked by.
 #[derive(Drop)]
 pub struct RunPart<'a> {
     pub settings: RunSettings<'a>,
     pub keys: Vec<DescriptionKey<'a>>,
+    pub calls: &'a [OwnCall],
     /// Whether no file is named, so that the standard input is read.
     pub reads_input: bool,
     /// The names of the files.
@@ -35,7 +37,7 @@ impl RunPart<'_> {
     pub fn options<'a>(&'a self, is_colored: bool, files: &'a [&'a str]) -> RunOptions<'a>
         ensures { spec.AreOptions is_colored self.now files.now result }
     {
-        run_options(self.settings, is_colored, &self.keys, files)
+        run_options(self.settings, is_colored, &self.keys, self.calls, files)
     }
 
     /// Whether there is no file, and the standard input isn't read.
@@ -80,7 +82,7 @@ pub fn all_keys<'a>(
 }
 
 /// The files that names lead to, with the settings and keys of the command line, and those of the names' file of settings
-/// after them. A folder means all sources below it, except what that file excludes.
+/// after them, and with the calls of that file. A folder means all sources below it, except what that file excludes.
 fn part_of<'a, S: FileSystem>(
     system: &S,
     alloc: Global,
@@ -99,6 +101,7 @@ fn part_of<'a, S: FileSystem>(
     Ok(RunPart {
         settings: with_levels(settings, counted_levels(settings, config)),
         keys,
+        calls: &config.calls,
         reads_input: named.names.is_empty(),
         files,
     })

@@ -88,8 +88,8 @@ fn run_and_rewrite<W: Sink>(
     }
 }
 
-// Rewrites the files of all parts in one go, so that a file with names in several parts is taken once. Nothing else of
-// their settings counts.
+// Rewrites the files of all parts in one go, so that a file with names in several parts is taken once. Of their settings nothing
+// else counts but the calls, if there is one part.
 fn rewrite_parts<W: Sink>(
     rt: &HostRuntime,
     rewriting: Rewriting,
@@ -100,16 +100,20 @@ fn rewrite_parts<W: Sink>(
 ) -> Result<LintTally, LintError>
     ensures unwritten { IfErr result (IsCausedBy (W.has_failed output.new)) }
 {
-    let [first, ..] = parts else {
+    let [first, others @ ..] = parts else {
         return Ok(LintTally::new());
     };
     let files = all_files(rt.alloc(), parts)?;
+    let mut options = first.options(is_colored, &files);
+    if !others.is_empty() {
+        options.calls = &[];
+    }
     let mut store = rt;
     let mut errors = errors(rt);
     rewrite_files(
         &mut store,
         rt.alloc(),
-        first.options(is_colored, &files),
+        options,
         rewriting,
         audience,
         &mut errors,

@@ -27,7 +27,7 @@ const LEFT: u8 = 1;
 const INPUT: &str = "-";
 
 /// Serves an editor, and returns the status. The keys and levels of the arguments come first, then those of the file of
-/// settings that is found from the folder that the editor has open. `here` is the path of the working directory, without
+/// settings that is found from the folder that the editor has open. That file also names the calls. `here` is the path of the working directory, without
 /// a `/` at either end.
 pub(crate) fn session_status(
     rt: &HostRuntime,
@@ -108,6 +108,7 @@ fn served<S: FileSystem, R: Source, W: Sink>(
     let settings = with_levels(settings, counted_levels(settings, &project.config));
     let served = timefd_lint_lsp::EditorSettings {
         keys: &keys,
+        calls: &project.config.calls,
         levels: reported_levels(settings),
     };
     Ok(serve_on(alloc, served, server, source, sink))

@@ -52,11 +52,11 @@ pub fn finder_of<'a>(options: RunOptions<'a>, name: &str) -> Finder<'a>
     ensures { result ≡ spec.finder_of options.entry name.now }
 {
     if is_rust(options, name) {
-        return Finder::Rust;
+        return Finder::Rust(options.calls);
     }
     match format_named(name) {
         Some(format) => Finder::Keys(format, options.keys),
-        None => Finder::Rust,
+        None => Finder::Rust(options.calls),
     }
 }
 

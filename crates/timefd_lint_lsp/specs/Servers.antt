@@ -136,7 +136,7 @@ Responds id why Silent = ⊥
 Responds id why Exit = ⊥
 
 abbrev pub finder_of : EditorSettings → DocumentKind → Finder
-finder_of settings kinds.Rust = finders.Rust
+finder_of settings kinds.Rust = finders.Rust settings.calls
 finder_of settings (kinds.Keys format) = finders.Keys format settings.keys
 
 -- All that is wrong in a document with this text, as `editor` defines it.

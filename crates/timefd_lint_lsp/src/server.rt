@@ -11,6 +11,7 @@ use crate::reply::{RequestAnswer, RequestRefusal, ServerMessage};
 use crate::reporting::reported;
 use std::alloc::{AllocError, Global};
 use timefd_lang_warnings::Levels;
+use timefd_lint_scan::OwnCall;
 use timefd_lint_scan::keys::DescriptionKey;
 use timefd_lint_sources::{Finder, SourceText};
 
@@ -19,6 +20,8 @@ use timefd_lint_sources::{Finder, SourceText};
 pub struct EditorSettings<'a> {
     /// The keys whose strings are descriptions in files with keys.
     pub keys: &'a [DescriptionKey<'a>],
+    /// The calls of the project whose arguments are descriptions in Rust.
+    pub calls: &'a [OwnCall],
     /// The level of each warning. `None` if no warning is reported.
     pub levels: Option<Levels>,
 }
@@ -113,7 +116,7 @@ pub fn source_of<'a>(
     ensures finder { result.finder ≡ spec.finder_of settings.entry kind }
 {
     let finder = match kind {
-        DocumentKind::Rust => Finder::Rust,
+        DocumentKind::Rust => Finder::Rust(settings.calls),
         DocumentKind::Keys(format) => Finder::Keys(format, settings.keys),
     };
     SourceText {

@@ -56,6 +56,7 @@ pub fn greet<R: Source, W: Sink>(
     // No answer before `initialize` depends on the settings.
     let nothing = EditorSettings {
         keys: &[],
+        calls: &[],
         levels: None,
     };
     'greeting: for _ in 0..u64::MAX {

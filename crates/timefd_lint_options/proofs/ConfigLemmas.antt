@@ -1,3 +1,4 @@
 pub mod ConfigLemmas
+pub mod CallLemmas
 pub mod BorrowedLemmas
 pub mod LevelLemmas

@@ -1,6 +1,7 @@
-//! Reads a file of settings, in TOML: keys, what is passed over, and the levels of warnings.
+//! Reads a file of settings, in TOML: keys, what is passed over, the levels of warnings, and calls.
 
 mod borrowed;
+mod calls;
 mod config;
 mod error;
 mod exclude;

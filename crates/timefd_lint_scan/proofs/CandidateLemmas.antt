@@ -15,6 +15,7 @@ use Rattle.timefd_lint_scan.specs.declared.candidate.CandidateLiteral.{Candidate
 use Rattle.timefd_lint_scan.specs.declared.description.SourceDescription.{SourceDescription}
 use Rattle.timefd_lint_scan.specs.declared.dialect.FormatLanguage.{FormatLanguage}
 use Rattle.timefd_lint_scan.specs.declared.marks.LanguageMark.{LanguageMark}
+use Rattle.timefd_lint_scan.specs.declared.own_call.OwnCall.{OwnCall}
 use Rattle.timefd_lint_scan.specs.declared.piece.PlacedToken.{PlacedToken}
 use Rattle.timefd_lint_scan.specs.declared.uses.Use.{Use}
 use Rattle.timefd_lint_scan.specs.Between.{IsBetween}
@@ -29,15 +30,15 @@ use Rattle.timefd_lint_scan.specs.Marks.{still_open, reported_at}
 use Rattle.timefd_lint_scan.specs.Versions.{IsSaid}
 
 -- What is found so far, followed by what is found from an index on, is all that there is.
-pub record AreSoFar (source : Text) (ps : List PlacedToken) (aliases : List Alias) (us : List Use) (comments : List LanguageMark)
+pub record AreSoFar (source : Text) (ps : List PlacedToken) (aliases : List Alias) (own : List OwnCall) (us : List Use) (comments : List LanguageMark)
     (i : ℕ) (frames : List OpenBracket) (counting : List LanguageMark) (end : ℕ) (so_far : List SourceDescription) : Type 0 where
   pub others : (rest : List SourceDescription)
-      → AreDescribed source end (candidates_from source ps aliases us i (drop i ps) frames counting) rest
-      → AreDescribed source 0 (candidates_by source ps aliases us comments) (so_far ++ rest)
+      → AreDescribed source end (candidates_from source ps aliases own us i (drop i ps) frames counting) rest
+      → AreDescribed source 0 (candidates_by source ps aliases own us comments) (so_far ++ rest)
 
-pub at_first : (source : Text) (ps : List PlacedToken) (aliases : List Alias) (us : List Use) (comments : List LanguageMark)
-    → AreSoFar source ps aliases us comments 0 (outermost ∷ []) comments 0 []
-at_first source ps aliases us comments = record { others = λ rest described. described }
+pub at_first : (source : Text) (ps : List PlacedToken) (aliases : List Alias) (own : List OwnCall) (us : List Use) (comments : List LanguageMark)
+    → AreSoFar source ps aliases own us comments 0 (outermost ∷ []) comments 0 []
+at_first source ps aliases own us comments = record { others = λ rest described. described }
 
 one_described : (source : Text) (from : ℕ) (c : Option CandidateLiteral) (answer : Option SourceDescription)
     (cs : List CandidateLiteral) (rest : List SourceDescription) → IsAnyDescribed source c answer
@@ -48,35 +49,35 @@ one_described source from None answer cs rest is described =
     (subst (λ a. AreDescribed source (end_after from (begun_after from a)) cs rest) is described)
 one_described source from (Some c) answer cs rest is described = (answer, rest, is, described, refl)
 
-pub one_more : (source : Text) (ps : List PlacedToken) (aliases : List Alias) (us : List Use)
+pub one_more : (source : Text) (ps : List PlacedToken) (aliases : List Alias) (own : List OwnCall) (us : List Use)
     (comments counting still : List LanguageMark) (i : ℕ) (p other : PlacedToken) (before later : List OpenBracket)
     (c : Option CandidateLiteral) (answer : Option SourceDescription) (from next : ℕ)
     (so_far now : List SourceDescription) → i < length ps → p ≡ get_or ps i other
-    → later ≡ passed source ps aliases us i before → still ≡ still_open p.start counting
+    → later ≡ passed source ps aliases own us i before → still ≡ still_open p.start counting
     → c ≡ candidate_at source ps i p (innermost later) (reported_at still p.start)
     → IsAnyDescribed source c answer → now ≡ so_far ++ option_to_list (begun_after from answer)
     → next ≡ end_after from (begun_after from answer)
-    → AreSoFar source ps aliases us comments i before counting from so_far
-    → AreSoFar source ps aliases us comments (i + 1) later still next now
-one_more source ps aliases us comments counting still i p other before later c answer from next so_far now below at opened left
+    → AreSoFar source ps aliases own us comments i before counting from so_far
+    → AreSoFar source ps aliases own us comments (i + 1) later still next now
+one_more source ps aliases own us comments counting still i p other before later c answer from next so_far now below at opened left
     known is pushed ends so_far_is = record {
       others = λ rest described.
           let after : List PlacedToken = drop (i + 1) ps in
           let step : List OpenBracket → List LanguageMark → Option CandidateLiteral → List CandidateLiteral =
-          λ a s x. option_to_list x ++ candidates_from source ps aliases us (i + 1) after a s in
+          λ a s x. option_to_list x ++ candidates_from source ps aliases own us (i + 1) after a s in
           let at_token : List OpenBracket → List LanguageMark → List CandidateLiteral =
           λ a s. step a s (candidate_at source ps i p (innermost a) (reported_at s p.start)) in
           let split : drop i ps ≡ p ∷ after = drop_more ps i other below ∙ ap (λ x. x ∷ after) (sym at) in
-          let here : step later still c ≡ candidates_from source ps aliases us i (drop i ps) before counting =
+          let here : step later still c ≡ candidates_from source ps aliases own us i (drop i ps) before counting =
           ap (step later still) known
           ∙ (ap (λ a. at_token a still) opened
-          ∙ (ap (at_token (passed source ps aliases us i before)) left
-          ∙ ap (λ l. candidates_from source ps aliases us i l before counting) (sym split))) in
+          ∙ (ap (at_token (passed source ps aliases own us i before)) left
+          ∙ ap (λ l. candidates_from source ps aliases own us i l before counting) (sym split))) in
           let found : AreDescribed source from (step later still c) (option_to_list (begun_after from answer) ++ rest) =
-          one_described source from c answer (candidates_from source ps aliases us (i + 1) after later still) rest is
-          (subst (λ n. AreDescribed source n (candidates_from source ps aliases us (i + 1) after later still) rest) ends
+          one_described source from c answer (candidates_from source ps aliases own us (i + 1) after later still) rest is
+          (subst (λ n. AreDescribed source n (candidates_from source ps aliases own us (i + 1) after later still) rest) ends
           described) in
-          subst (λ ds. AreDescribed source 0 (candidates_by source ps aliases us comments) ds)
+          subst (λ ds. AreDescribed source 0 (candidates_by source ps aliases own us comments) ds)
           (sym (append_assoc so_far (option_to_list (begun_after from answer)) rest) ∙ ap (λ t. t ++ rest) (sym pushed))
           (so_far_is.others (option_to_list (begun_after from answer) ++ rest)
           (subst (λ cs. AreDescribed source from cs (option_to_list (begun_after from answer) ++ rest)) here found));
@@ -93,14 +94,14 @@ reported_at_token source bytes ps i p frames seen frame still dialect same all i
     ∙ (ap (λ f. candidate_at source ps i p f dialect) (inner ∙ ap innermost all)
     ∙ ap (candidate_at source ps i p (innermost frames)) known)
 
-pub at_last : (source : Text) (ps : List PlacedToken) (aliases : List Alias) (us : List Use)
+pub at_last : (source : Text) (ps : List PlacedToken) (aliases : List Alias) (own : List OwnCall) (us : List Use)
     (comments counting : List LanguageMark) (i : ℕ) (frames : List OpenBracket) (from : ℕ) (so_far : List SourceDescription) → length ps ≤ i
-    → AreSoFar source ps aliases us comments i frames counting from so_far
-    → AreDescribed source 0 (candidates_by source ps aliases us comments) so_far
-at_last source ps aliases us comments counting i frames from so_far none is =
-    subst (λ ds. AreDescribed source 0 (candidates_by source ps aliases us comments) ds) (append-nil so_far)
+    → AreSoFar source ps aliases own us comments i frames counting from so_far
+    → AreDescribed source 0 (candidates_by source ps aliases own us comments) so_far
+at_last source ps aliases own us comments counting i frames from so_far none is =
+    subst (λ ds. AreDescribed source 0 (candidates_by source ps aliases own us comments) ds) (append-nil so_far)
     (is.others []
-    (subst (λ l. AreDescribed source from (candidates_from source ps aliases us i l frames counting) [])
+    (subst (λ l. AreDescribed source from (candidates_from source ps aliases own us i l frames counting) [])
     (sym (drop_all i ps none)) refl))
 
 -- The description of a literal stands in the source.

@@ -1,10 +1,12 @@
 -- Aliases that a source declares, and where their blocks end.
-use Rattle.std.proofs.Common.{ℕ, ◌≡◌, ◌∙◌, ◌++◌, ◌-◌, ◌≤◌, false, true, List, [], ◌∷◌, ap, arith, drop, get_or, length, refl, reverse, subst, sym, take}
+use Rattle.std.proofs.Common.{ℕ, ◌≡◌, ◌∙◌, ◌++◌, ◌-◌, ◌<◌, ◌≤◌, false, true, List, [], ◌∷◌, ap, arith, drop, get_or, length, refl, reverse, subst, sym, take}
 use Rattle.std.proofs.lemmas.List.{drop_all, reverse-append, take_all}
+use Rattle.std.proofs.lemmas.Option.{slice_get-get_or}
 use Rattle.std.proofs.lemmas.Slice.Eq.{bytes_eq-Decides}
 use Rattle.std.specs.Option.{option_to_list}
 use Rattle.std.specs.Prelude.{Option, Some, None, bytes_eq, codes}
 use Rattle.timefd_lint_scan.specs.declared.alias.Alias.{Alias}
+use Rattle.timefd_lint_scan.specs.declared.own_call.OwnCall.{OwnCall}
 use Rattle.timefd_lint_scan.specs.declared.piece.PlacedToken.{PlacedToken}
 use Rattle.timefd_lint_scan.specs.Aliases.{IsUntil, alias_at, aliases_in, block_end, statement_end}
 use Rattle.timefd_lint_scan.specs.Bytes.{Text}
@@ -50,15 +52,18 @@ reverse_option : (found : Option Alias) → reverse (option_to_list found) ≡ o
 reverse_option None = refl
 reverse_option (Some alias) = refl
 
-pub one_more : (source : Text) (ps : List PlacedToken) (n left : ℕ) (p : PlacedToken) (found : Option Alias) (old now : List Alias)
-    → drop n ps ≡ p ∷ drop left ps → found ≡ alias_at source p (drop left ps) → now ≡ old ++ option_to_list found
-    → reverse old ≡ aliases_in source (drop left ps) → reverse now ≡ aliases_in source (drop n ps)
-one_more source ps n left p found old now split is pushed so_far =
+pub one_more : (source : Text) (own : List OwnCall) (ps : List PlacedToken) (n left : ℕ) (p : PlacedToken) (found : Option Alias) (old now : List Alias)
+    → drop n ps ≡ p ∷ drop left ps → found ≡ alias_at source own p (drop left ps) → now ≡ old ++ option_to_list found
+    → reverse old ≡ aliases_in source own (drop left ps) → reverse now ≡ aliases_in source own (drop n ps)
+one_more source own ps n left p found old now split is pushed so_far =
     ap reverse pushed
     ∙ (reverse-append old (option_to_list found)
     ∙ (ap (λ l. l ++ reverse old) (reverse_option found)
     ∙ (ap (λ l. option_to_list found ++ l) so_far
-    ∙ (ap (λ o. option_to_list o ++ aliases_in source (drop left ps)) is ∙ ap (aliases_in source) (sym split)))))
+    ∙ (ap (λ o. option_to_list o ++ aliases_in source own (drop left ps)) is ∙ ap (aliases_in source own) (sym split)))))
+
+any_other : (ps : List PlacedToken) (n : ℕ) (d other : PlacedToken) → n < length ps → get_or ps n d ≡ get_or ps n other
+any_other ps n d other below = cc (slice_get-get_or ps n d below, slice_get-get_or ps n other below)
 
 -- Two colons end no statement.
 pub passed_colons : (source : Text) (ps : List PlacedToken) (d : PlacedToken) (until : Option ℕ) → 3 ≤ length ps
@@ -72,3 +77,16 @@ passed_colons source (p ∷ q ∷ r ∷ ps) d until long first second is =
     let all : take (length (p ∷ q ∷ r ∷ ps) - 3) ps ≡ ps = take_all (length (p ∷ q ∷ r ∷ ps) - 3) ps (omega arith) in
     subst (λ rest. IsUntil source (r ∷ rest) until) (sym all)
     (passed_colon source q (r ∷ ps) until second (passed_colon source p (q ∷ r ∷ ps) until first is))
+
+-- the same for tokens that are read
+pub items_passed : (source : Text) (ps : List PlacedToken) (p q r : PlacedToken) (until : Option ℕ) → 3 ≤ length ps
+    → p ≡ get_or ps 0 p → q ≡ get_or ps 1 q → r ≡ get_or ps 2 r → bytes_eq (text_of source p) (codes ":") ≡ true
+    → bytes_eq (text_of source q) (codes ":") ≡ true → IsUntil source ps until
+    → IsUntil source (r ∷ take (length ps - 3) (drop 3 ps)) until
+items_passed source ps p q r until long here next last first second is =
+    let one : bytes_eq (text_of source (get_or ps 0 r)) (codes ":") ≡ true =
+    subst (λ x. bytes_eq (text_of source x) (codes ":") ≡ true) (here ∙ any_other ps 0 p r (omega (arith, long))) first in
+    let two : bytes_eq (text_of source (get_or ps 1 r)) (codes ":") ≡ true =
+    subst (λ x. bytes_eq (text_of source x) (codes ":") ≡ true) (next ∙ any_other ps 1 q r (omega (arith, long))) second in
+    subst (λ x. IsUntil source (x ∷ take (length ps - 3) (drop 3 ps)) until) (sym last)
+    (passed_colons source ps r until long one two is)

@@ -2,6 +2,7 @@
 use Rattle.std.proofs.Common.{◌≡◌, ◌∙◌, List, ap, inl, inr, subst, sym}
 use Rattle.timefd_lint_scan.specs.declared.look.Look.{Look}
 use Rattle.timefd_lint_scan.specs.declared.marks.LanguageMark.{LanguageMark}
+use Rattle.timefd_lint_scan.specs.declared.own_call.OwnCall.{OwnCall}
 use Rattle.timefd_lint_scan.specs.declared.piece.PlacedToken.{PlacedToken}
 use Rattle.timefd_lint_scan.specs.Bytes.{Text}
 use Rattle.timefd_lint_scan.specs.Candidates.{candidates_in, significant}
@@ -13,27 +14,27 @@ use Rattle.timefd_lint_scan.proofs.CandidateLemmas.{all_in_order, all_stand}
 use Rattle.timefd_lint_scan.proofs.FoundLemmas.{at_first}
 use Rattle.timefd_lint_scan.proofs.GatheredLemmas.{marks_are, words_are}
 
-pub all_seen : (source : Text) (look : Look) → IsLook source look → AreDescriptionsOf source look.descriptions.items
-all_seen source look (inl (none, blank)) = inl (none, blank.descriptions)
-all_seen source look (inr (all, seen)) = inr (all, seen.tokens, seen.descriptions)
+pub all_seen : (source : Text) (own : List OwnCall) (look : Look) → IsLook source own look → AreDescriptionsOf source own look.descriptions.items
+all_seen source own look (inl (none, blank)) = inl (none, blank.descriptions)
+all_seen source own look (inr (all, seen)) = inr (all, seen.tokens, seen.descriptions)
 
-pub seen_stand : (source : Text) (look : Look) → IsLook source look → AllStandIn source look.descriptions.items
-seen_stand source look (inl (none, blank)) =
+pub seen_stand : (source : Text) (own : List OwnCall) (look : Look) → IsLook source own look → AllStandIn source look.descriptions.items
+seen_stand source own look (inl (none, blank)) =
     subst (AllStandIn source) (sym blank.descriptions) (at_first source)
-seen_stand source look (inr (all, seen)) = all_stand source 0 _ look.descriptions.items seen.descriptions
+seen_stand source own look (inr (all, seen)) = all_stand source 0 _ look.descriptions.items seen.descriptions
 
-pub seen_in_order : (source : Text) (look : Look) → IsLook source look → AreInOrder 0 look.descriptions.items
-seen_in_order source look (inl (none, blank)) = subst (AreInOrder 0) (sym blank.descriptions) tt
-seen_in_order source look (inr (all, seen)) = all_in_order source 0 _ look.descriptions.items seen.descriptions
+pub seen_in_order : (source : Text) (own : List OwnCall) (look : Look) → IsLook source own look → AreInOrder 0 look.descriptions.items
+seen_in_order source own look (inl (none, blank)) = subst (AreInOrder 0) (sym blank.descriptions) tt
+seen_in_order source own look (inr (all, seen)) = all_in_order source 0 _ look.descriptions.items seen.descriptions
 
 -- What is seen among the tokens that are looked at is what is seen in the source.
-pub seen : (source bytes others : Text) (pieces notes given again those : List PlacedToken) (marks handed : List LanguageMark)
+pub seen : (source bytes others : Text) (own : List OwnCall) (pieces notes given again those : List PlacedToken) (marks handed : List LanguageMark)
     (look : Look) → AreGathered source pieces notes → bytes ≡ source → given ≡ notes
     → marks ≡ spec.marks bytes given → others ≡ source → again ≡ notes
     → look.comments.items ≡ spec.unknown_marks others again → those ≡ pieces → handed ≡ marks
-    → AreDescribed source 0 (candidates_in source those handed) look.descriptions.items
-    → AreUnreadCalls source those look.descriptions.items look.calls.items → IsLook source look
-seen source bytes others pieces notes given again those marks handed look are here noted marked there noted_too words same used
+    → AreDescribed source 0 (candidates_in source own those handed) look.descriptions.items
+    → AreUnreadCalls source own those look.descriptions.items look.calls.items → IsLook source own look
+seen source bytes others own pieces notes given again those marks handed look are here noted marked there noted_too words same used
     described calls =
     let all_marks : handed ≡ spec.marks source are.all =
     used ∙ (marked ∙ (ap (λ b. spec.marks b given) here
@@ -46,12 +47,12 @@ seen source bytes others pieces notes given again those marks handed look are he
       record {
         tokens = are.tokens;
         descriptions =
-            subst (λ m. AreDescribed source 0 (candidates_in source (significant are.all) m) look.descriptions.items)
+            subst (λ m. AreDescribed source 0 (candidates_in source own (significant are.all) m) look.descriptions.items)
             all_marks
-            (subst (λ ps. AreDescribed source 0 (candidates_in source ps handed) look.descriptions.items) (same ∙ are.kept)
+            (subst (λ ps. AreDescribed source 0 (candidates_in source own ps handed) look.descriptions.items) (same ∙ are.kept)
             described);
         calls =
-            subst (λ ps. AreUnreadCalls source ps look.descriptions.items look.calls.items) (same ∙ are.kept) calls;
+            subst (λ ps. AreUnreadCalls source own ps look.descriptions.items look.calls.items) (same ∙ are.kept) calls;
         comments = all_words;
       },
     )

@@ -5,6 +5,7 @@ use Rattle.std.specs.Option.{option_to_list}
 use Rattle.std.specs.Prelude.{Option}
 use Rattle.timefd_lint_scan.specs.declared.alias.Alias.{Alias}
 use Rattle.timefd_lint_scan.specs.declared.calls.OpenBracket.{OpenBracket}
+use Rattle.timefd_lint_scan.specs.declared.own_call.OwnCall.{OwnCall}
 use Rattle.timefd_lint_scan.specs.declared.piece.PlacedToken.{PlacedToken}
 use Rattle.timefd_lint_scan.specs.declared.token.Token.TheVariants.{White}
 use Rattle.timefd_lint_scan.specs.declared.uses.Use.{Use}
@@ -13,24 +14,24 @@ use Rattle.timefd_lint_scan.specs.Frames.{innermost, passed}
 use Rattle.timefd_lint_scan.specs.Using.{in_calls, in_calls_from, in_loops, in_loops_from, loop_at, use_at}
 
 -- What is found so far, followed by what is found from an index on, is all that there is.
-abbrev pub AreSoFar : Text → List PlacedToken → List Alias → ℕ → List OpenBracket → List Use → Type 0
-AreSoFar source ps aliases i frames got =
-    got ++ in_calls_from source ps aliases i (drop i ps) frames ≡ in_calls source ps aliases
+abbrev pub AreSoFar : Text → List PlacedToken → List Alias → List OwnCall → ℕ → List OpenBracket → List Use → Type 0
+AreSoFar source ps aliases own i frames got =
+    got ++ in_calls_from source ps aliases own i (drop i ps) frames ≡ in_calls source ps aliases own
 
-pub one_more : (source : Text) (ps : List PlacedToken) (aliases : List Alias) (i : ℕ) (p other : PlacedToken)
+pub one_more : (source : Text) (ps : List PlacedToken) (aliases : List Alias) (own : List OwnCall) (i : ℕ) (p other : PlacedToken)
     (before later : List OpenBracket) (found : Option Use) (got now : List Use) → i < length ps → p ≡ get_or ps i other
-    → later ≡ passed source ps aliases [] i before → found ≡ use_at source ps i p (innermost later)
-    → now ≡ got ++ option_to_list found → AreSoFar source ps aliases i before got
-    → AreSoFar source ps aliases (i + 1) later now
-one_more source ps aliases i p other before later found got now below at opened is pushed so_far =
+    → later ≡ passed source ps aliases own [] i before → found ≡ use_at source ps i p (innermost later)
+    → now ≡ got ++ option_to_list found → AreSoFar source ps aliases own i before got
+    → AreSoFar source ps aliases own (i + 1) later now
+one_more source ps aliases own i p other before later found got now below at opened is pushed so_far =
     let after : List PlacedToken = drop (i + 1) ps in
     let split : drop i ps ≡ p ∷ after = drop_more ps i other below ∙ ap (λ x. x ∷ after) (sym at) in
-    let left : List OpenBracket → List Use = λ a. in_calls_from source ps aliases (i + 1) after a in
+    let left : List OpenBracket → List Use = λ a. in_calls_from source ps aliases own (i + 1) after a in
     let step : List OpenBracket → List Use =
     λ a. option_to_list (use_at source ps i p (innermost a)) ++ left a in
-    let here : option_to_list found ++ left later ≡ in_calls_from source ps aliases i (drop i ps) before =
+    let here : option_to_list found ++ left later ≡ in_calls_from source ps aliases own i (drop i ps) before =
     ap (λ u. option_to_list u ++ left later) is
-    ∙ (ap step opened ∙ ap (λ l. in_calls_from source ps aliases i l before) (sym split)) in
+    ∙ (ap step opened ∙ ap (λ l. in_calls_from source ps aliases own i l before) (sym split)) in
     ap (λ t. t ++ left later) pushed
     ∙ (append_assoc got (option_to_list found) (left later) ∙ (ap (λ t. got ++ t) here ∙ so_far))
 
@@ -39,11 +40,11 @@ pub used_at : (source : Text) (ps : List PlacedToken) (i : ℕ) (p : PlacedToken
     → seen ≡ frames → frame ≡ innermost seen → use_at source ps i p frame ≡ use_at source ps i p (innermost frames)
 used_at source ps i p frames seen frame all inner = ap (use_at source ps i p) (inner ∙ ap innermost all)
 
-pub at_last : (source : Text) (ps : List PlacedToken) (aliases : List Alias) (i : ℕ) (frames : List OpenBracket) (got : List Use)
-    → length ps ≤ i → AreSoFar source ps aliases i frames got → got ≡ in_calls source ps aliases
-at_last source ps aliases i frames got none so_far =
+pub at_last : (source : Text) (ps : List PlacedToken) (aliases : List Alias) (own : List OwnCall) (i : ℕ) (frames : List OpenBracket) (got : List Use)
+    → length ps ≤ i → AreSoFar source ps aliases own i frames got → got ≡ in_calls source ps aliases own
+at_last source ps aliases own i frames got none so_far =
     sym (append-nil got)
-    ∙ (ap (λ l. got ++ in_calls_from source ps aliases i l frames) (sym (drop_all i ps none)) ∙ so_far)
+    ∙ (ap (λ l. got ++ in_calls_from source ps aliases own i l frames) (sym (drop_all i ps none)) ∙ so_far)
 
 pub no_piece : PlacedToken
 no_piece = record { token = White; start = 0; end = 0 }

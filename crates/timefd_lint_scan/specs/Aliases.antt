@@ -1,7 +1,9 @@
 -- The names that a source gives to items of libraries: `use time::format_description as fd`.
-use Rattle.std.specs.Prelude.{ℕ, ⊤, ◌≡◌, ◌+◌, ◌-◌, Bool, ◌&&◌, ◌||◌, ◌==◌, nat_le, nat_lt, if◌then◌else◌, List, [], ◌∷◌, ◌++◌, codes, bytes_eq, length, Option, Some, None}
+use Rattle.std.specs.Prelude.{ℕ, ⊤, ◌≡◌, ◌+◌, ◌-◌, Bool, ◌&&◌, ◌||◌, ◌==◌, nat_le, nat_lt, if◌then◌else◌, List, [], ◌∷◌, ◌++◌, codes, bytes_eq, length, Option, Some, None, string_bytes}
+use Rattle.std.specs.List.{list_any}
 use Rattle.std.specs.Option.{option_or, option_to_list}
 use Rattle.timefd_lint_scan.specs.declared.alias.Alias.{Alias}
+use Rattle.timefd_lint_scan.specs.declared.own_call.OwnCall.{OwnCall}
 use Rattle.timefd_lint_scan.specs.declared.piece.PlacedToken.{PlacedToken}
 use Rattle.timefd_lint_scan.specs.Bytes.{Text}
 use Rattle.timefd_lint_scan.specs.Words.{is_closing, is_opening, text_at, text_of}
@@ -27,6 +29,13 @@ is_known name =
     || bytes_eq name (codes "parse_owned") || bytes_eq name (codes "parse_strftime_borrowed")
     || bytes_eq name (codes "parse_strftime_owned") || bytes_eq name (codes "StrftimeItems")
     || bytes_eq name (codes "strtime")
+
+-- A project's call has this name, or this owner.
+abbrev pub has_name : Text → OwnCall → Bool
+has_name name call = bytes_eq (string_bytes call.name) name || bytes_eq (string_bytes call.owner) name
+
+abbrev pub is_of_own : List OwnCall → Text → Bool
+is_of_own own name = list_any (has_name name) own
 
 abbrev pub ends_import : Text → Bool
 ends_import text =
@@ -97,16 +106,16 @@ parse_beside source p after =
     if bytes_eq (text_of source p) (codes "format_description") then parse_after source after else None
 
 -- the alias that is declared at a token, which these follow
-abbrev pub alias_at : Text → PlacedToken → List PlacedToken → Option Alias
-alias_at source p after =
-    if is_known (text_of source p) then
+abbrev pub alias_at : Text → List OwnCall → PlacedToken → List PlacedToken → Option Alias
+alias_at source own p after =
+    if is_known (text_of source p) || is_of_own own (text_of source p) then
     option_or (renamed source p after) (parse_beside source p after)
     else None
 
 -- the aliases of a source, in order
-abbrev pub aliases_in : Text → List PlacedToken → List Alias
-aliases_in source [] = []
-aliases_in source (p ∷ ps) = option_to_list (alias_at source p ps) ++ aliases_in source ps
+abbrev pub aliases_in : Text → List OwnCall → List PlacedToken → List Alias
+aliases_in source own [] = []
+aliases_in source own (p ∷ ps) = option_to_list (alias_at source own p ps) ++ aliases_in source own ps
 
 abbrev pub is_named_so : Text → Alias → Text → ℕ → Bool
 is_named_so source alias name position =

@@ -1,11 +1,9 @@
 -- What a bracket says about a token in it: whether it is a description, in which language, and where the
 -- source says so.
-use Rattle.std.specs.Prelude.{ℕ, ◌+◌, ◌-◌, Bool, true, false, not, ◌&&◌, ◌||◌, nat_eq, nat_le, if◌then◌else◌, List, codes, bytes_eq, Option, Some, None}
+use Rattle.std.specs.Prelude.{ℕ, ◌+◌, ◌-◌, ◌==◌, Bool, true, false, not, ◌&&◌, ◌||◌, nat_eq, nat_le, if◌then◌else◌, List, codes, bytes_eq, Option, Some, None}
 use Rattle.std.specs.List.{slice_get}
-use Rattle.timefd_lint_scan.specs.declared.calls.Argument.{Argument}
-use Rattle.timefd_lint_scan.specs.declared.calls.Argument.TheVariants as arguments
 use Rattle.timefd_lint_scan.specs.declared.calls.Call.{Call}
-use Rattle.timefd_lint_scan.specs.declared.calls.Call.TheVariants.{Macro, First, Owned, Second, Format, Other}
+use Rattle.timefd_lint_scan.specs.declared.calls.Call.TheVariants.{Macro, First, Owned, Second, Format, Own, Other}
 use Rattle.timefd_lint_scan.specs.declared.calls.OpenBracket.{OpenBracket}
 use Rattle.timefd_lint_scan.specs.declared.known.Items.{Items}
 use Rattle.timefd_lint_scan.specs.declared.known.Items.TheVariants.{Taken, Refused}
@@ -73,21 +71,18 @@ call_position source ps opening =
     if bytes_eq (text_before source ps opening 1) (codes ">") then digit_before ps opening 2
     else positions.Call
 
+-- the language of the argument with a number; none for the others
+abbrev pub dialect_at : ℕ → ℕ → FormatLanguage → Option FormatLanguage
+dialect_at argument number dialect = if argument == number then Some dialect else None
+
 -- the language of the argument of a call that is a description
-abbrev pub dialect_by : Call → Argument → Option FormatLanguage → Option FormatLanguage
+abbrev pub dialect_by : Call → ℕ → Option FormatLanguage → Option FormatLanguage
 dialect_by Macro argument version = version
-dialect_by (First dialect) arguments.First version = Some dialect
-dialect_by (First dialect) arguments.Second version = None
-dialect_by (First dialect) arguments.Later version = None
-dialect_by (Owned dialect) arguments.First version = Some dialect
-dialect_by (Owned dialect) arguments.Second version = None
-dialect_by (Owned dialect) arguments.Later version = None
-dialect_by (Second dialect) arguments.First version = None
-dialect_by (Second dialect) arguments.Second version = Some dialect
-dialect_by (Second dialect) arguments.Later version = None
-dialect_by Format arguments.First version = Some Chrono
-dialect_by Format arguments.Second version = None
-dialect_by Format arguments.Later version = None
+dialect_by (First dialect) argument version = dialect_at argument 0 dialect
+dialect_by (Owned dialect) argument version = dialect_at argument 0 dialect
+dialect_by (Second dialect) argument version = dialect_at argument 1 dialect
+dialect_by Format argument version = dialect_at argument 0 Chrono
+dialect_by (Own dialect number) argument version = dialect_at argument number dialect
 dialect_by Other argument version = None
 
 -- the language of a token in a bracket; none if it isn't a whole argument, or isn't a description
@@ -103,6 +98,7 @@ version_position source ps i frame (First dialect) = call_position source ps fra
 version_position source ps i frame (Owned dialect) = call_position source ps frame.opened
 version_position source ps i frame (Second dialect) = positions.Elsewhere
 version_position source ps i frame Format = positions.Elsewhere
+version_position source ps i frame (Own dialect number) = positions.Call
 version_position source ps i frame Other = positions.Elsewhere
 
 -- `format` is a common name: its argument is a description only with a `%`.
@@ -112,6 +108,7 @@ wants_percent (First dialect) = false
 wants_percent (Owned dialect) = false
 wants_percent (Second dialect) = false
 wants_percent Format = true
+wants_percent (Own dialect number) = false
 wants_percent Other = false
 
 -- The macro and `parse_owned` take `[optional ..]` and `[first ..]` in versions 1 and 2.
@@ -121,6 +118,7 @@ items_in (First dialect) = Refused
 items_in (Owned dialect) = Taken
 items_in (Second dialect) = Refused
 items_in Format = Refused
+items_in (Own dialect number) = Refused
 items_in Other = Refused
 
 abbrev pub known_of : Text → List PlacedToken → ℕ → OpenBracket → Option FormatLanguage → Option Known
@@ -149,5 +147,5 @@ reported_as call (Some dialect) = Some (record {
 })
 
 -- what a call says about the value of an argument, however that is written
-abbrev pub known_by_call : Call → Argument → Option Known
+abbrev pub known_by_call : Call → ℕ → Option Known
 known_by_call call argument = reported_as call (dialect_by call argument None)

@@ -1,5 +1,5 @@
--- Which literals of a source may be descriptions: arguments of known calls, and literals for which a comment
--- names a language.
+-- Which literals of a source may be descriptions: arguments of known calls and of a project's own, and literals for which
+-- a comment names a language.
 use Rattle.std.specs.Prelude.{ℕ, ◌+◌, Bool, true, false, if◌then◌else◌, List, [], ◌∷◌, ◌++◌, Option, Some, None}
 use Rattle.std.specs.List.{flat_map}
 use Rattle.std.specs.Option.{option_or, option_to_list}
@@ -8,6 +8,7 @@ use Rattle.timefd_lint_scan.specs.declared.calls.OpenBracket.{OpenBracket}
 use Rattle.timefd_lint_scan.specs.declared.candidate.CandidateLiteral.{CandidateLiteral}
 use Rattle.timefd_lint_scan.specs.declared.dialect.FormatLanguage.{FormatLanguage}
 use Rattle.timefd_lint_scan.specs.declared.marks.LanguageMark.{LanguageMark}
+use Rattle.timefd_lint_scan.specs.declared.own_call.OwnCall.{OwnCall}
 use Rattle.timefd_lint_scan.specs.declared.piece.PlacedToken.{PlacedToken}
 use Rattle.timefd_lint_scan.specs.declared.known.Items.TheVariants.{Refused}
 use Rattle.timefd_lint_scan.specs.declared.known.Known.{Known}
@@ -72,22 +73,22 @@ candidate_at source ps i p frame dialect =
 
 -- the candidates among the tokens from an index on, with these open brackets and these comments that name a
 -- language
-abbrev pub candidates_from : Text → List PlacedToken → List Alias → List Use → ℕ → List PlacedToken → List OpenBracket → List LanguageMark
+abbrev pub candidates_from : Text → List PlacedToken → List Alias → List OwnCall → List Use → ℕ → List PlacedToken → List OpenBracket → List LanguageMark
     → List CandidateLiteral
-candidates_from source ps aliases us i [] frames comments = []
-candidates_from source ps aliases us i (p ∷ rest) frames comments =
-    option_to_list (candidate_at source ps i p (innermost (passed source ps aliases us i frames))
+candidates_from source ps aliases own us i [] frames comments = []
+candidates_from source ps aliases own us i (p ∷ rest) frames comments =
+    option_to_list (candidate_at source ps i p (innermost (passed source ps aliases own us i frames))
     (reported_at (still_open p.start comments) p.start))
-    ++ candidates_from source ps aliases us (i + 1) rest (passed source ps aliases us i frames)
+    ++ candidates_from source ps aliases own us (i + 1) rest (passed source ps aliases own us i frames)
     (still_open p.start comments)
 
-abbrev pub candidates_by : Text → List PlacedToken → List Alias → List Use → List LanguageMark → List CandidateLiteral
-candidates_by source ps aliases us comments = candidates_from source ps aliases us 0 ps (outermost ∷ []) comments
+abbrev pub candidates_by : Text → List PlacedToken → List Alias → List OwnCall → List Use → List LanguageMark → List CandidateLiteral
+candidates_by source ps aliases own us comments = candidates_from source ps aliases own us 0 ps (outermost ∷ []) comments
 
-abbrev pub candidates_in : Text → List PlacedToken → List LanguageMark → List CandidateLiteral
-candidates_in source ps comments =
-    candidates_by source ps (aliases_in source ps) (uses_in source ps (aliases_in source ps)) comments
+abbrev pub candidates_in : Text → List OwnCall → List PlacedToken → List LanguageMark → List CandidateLiteral
+candidates_in source own ps comments =
+    candidates_by source ps (aliases_in source own ps) own (uses_in source ps (aliases_in source own ps) own) comments
 
--- the candidates of a source that is cut into these tokens
-abbrev pub candidates : Text → List PlacedToken → List CandidateLiteral
-candidates source all = candidates_in source (significant all) (marks source all)
+-- the candidates of a source that is cut into these tokens, with these calls of its project
+abbrev pub candidates : Text → List OwnCall → List PlacedToken → List CandidateLiteral
+candidates source own all = candidates_in source own (significant all) (marks source all)

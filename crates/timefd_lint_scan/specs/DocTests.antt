@@ -25,7 +25,7 @@ abbrev pub code_of : Text → Text
 code_of text = in_front text (after_run is_white text) ++ shown (after_run is_white text)
 
 -- what the words say up to one about a block: nothing yet, that it is Rust, that it is another language, that it has to fail
-data pub Verdict : Type 0 where
+pub data Verdict : Type 0 where
   Unsaid : Verdict
   Rust : Verdict
   Other : Verdict
@@ -91,7 +91,7 @@ is_closing_by sign count text =
     nat_le count (count_of sign text) && length (after_run is_white (drop (count_of sign text) text)) == 0
 
 -- where a line of a doc comment stands: in no block, in an example, or in another block, which so many of these bytes close
-data pub Place : Type 0 where
+pub data Place : Type 0 where
   Outside : Place
   In : ℕ → ℕ → Place
   Block : ℕ → ℕ → Place

@@ -2,16 +2,16 @@
 use Rattle.std.specs.Prelude.{ℕ, ◌-◌, Bool, not, ◌&&◌, ◌||◌, if◌then◌else◌, List, codes, bytes_eq, Option, Some, None}
 use Rattle.std.specs.Option.{option_or}
 use Rattle.timefd_lint_scan.specs.declared.alias.Alias.{Alias}
-use Rattle.timefd_lint_scan.specs.declared.calls.Argument.TheVariants as arguments
 use Rattle.timefd_lint_scan.specs.declared.calls.Call.{Call}
-use Rattle.timefd_lint_scan.specs.declared.calls.Call.TheVariants.{Macro, First, Owned, Second, Format, Other}
+use Rattle.timefd_lint_scan.specs.declared.calls.Call.TheVariants.{Macro, First, Owned, Second, Format, Own, Other}
 use Rattle.timefd_lint_scan.specs.declared.calls.OpenBracket.{OpenBracket}
+use Rattle.timefd_lint_scan.specs.declared.own_call.OwnCall.{OwnCall}
 use Rattle.timefd_lint_scan.specs.declared.piece.PlacedToken.{PlacedToken}
 use Rattle.timefd_lint_scan.specs.declared.known.Known.{Known}
 use Rattle.timefd_lint_scan.specs.declared.uses.Use.{Use}
 use Rattle.timefd_lint_scan.specs.Arguments.{known_by_call}
 use Rattle.timefd_lint_scan.specs.Bytes.{Text}
-use Rattle.timefd_lint_scan.specs.Calls.{call_of}
+use Rattle.timefd_lint_scan.specs.OwnCalls.{call_at}
 use Rattle.timefd_lint_scan.specs.Uses.{known_by_name}
 use Rattle.timefd_lint_scan.specs.Values.{is_operator, is_value}
 use Rattle.timefd_lint_scan.specs.Words.{is_word_at, text_at, text_before, text_after}
@@ -121,22 +121,23 @@ passed_into source ps i (First dialect) outer = None
 passed_into source ps i (Owned dialect) outer = None
 passed_into source ps i (Second dialect) outer = None
 passed_into source ps i Format outer = None
+passed_into source ps i (Own dialect number) outer = None
 passed_into source ps i Other outer = if is_around_values source ps i then pending_of outer else None
 
 abbrev pub begun : ℕ → Call → Option Known → OpenBracket
 begun i call passes = record {
   opened = i;
   call = call;
-  argument = arguments.First;
+  argument = 0;
   passes = passes;
   pending = None;
   name = None;
 }
 
 -- the bracket that a token opens, inside of another one
-abbrev pub opened : Text → List PlacedToken → List Alias → ℕ → Option OpenBracket → OpenBracket
-opened source ps aliases i outer =
-    settled (begun i (call_of source ps aliases i) (passed_into source ps i (call_of source ps aliases i) outer))
+abbrev pub opened : Text → List PlacedToken → List Alias → List OwnCall → ℕ → Option OpenBracket → OpenBracket
+opened source ps aliases own i outer =
+    settled (begun i (call_at source ps aliases own i) (passed_into source ps i (call_at source ps aliases own i) outer))
 
 -- the frame around all brackets of a source
 abbrev pub outermost : OpenBracket

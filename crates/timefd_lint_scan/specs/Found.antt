@@ -4,6 +4,7 @@ use Rattle.std.specs.List.{All}
 use Rattle.std.specs.Option.{option_to_list}
 use Rattle.timefd_lint_scan.specs.declared.candidate.CandidateLiteral.{CandidateLiteral}
 use Rattle.timefd_lint_scan.specs.declared.description.SourceDescription.{SourceDescription}
+use Rattle.timefd_lint_scan.specs.declared.own_call.OwnCall.{OwnCall}
 use Rattle.timefd_lint_scan.specs.declared.piece.PlacedToken.{PlacedToken}
 use Rattle.timefd_lint_scan.specs.declared.known.Known.{Known}
 use Rattle.timefd_lint_scan.specs.Bytes.{Text}
@@ -87,12 +88,13 @@ AreDescribed source from (c ∷ cs) found =
     × AreDescribed source (end_after from (begun_after from answer)) cs rest
     × (found ≡ option_to_list (begun_after from answer) ++ rest)
 
--- These are the descriptions of a source: none if it has none of the names that descriptions come with.
-abbrev pub AreDescriptionsOf : Text → List SourceDescription → Type 0
-AreDescriptionsOf source found =
-    (HasNoName source × (found ≡ []))
+-- These are the descriptions of a source with these calls of its project: none if it has none of the names that descriptions come
+-- with.
+abbrev pub AreDescriptionsOf : Text → List OwnCall → List SourceDescription → Type 0
+AreDescriptionsOf source own found =
+    (HasNoName source own × (found ≡ []))
     ⊎ ((all : List PlacedToken) × AreTokens (length source) source all
-    × AreDescribed source 0 (candidates source all) found)
+    × AreDescribed source 0 (candidates source own all) found)
 
 -- the position of a byte of a description; after the last byte it is the position of the closing quote
 abbrev pub index_in_source : SourceDescription → ℕ → ℕ

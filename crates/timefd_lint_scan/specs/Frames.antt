@@ -1,10 +1,9 @@
 -- The brackets that are open, the innermost one last.
-use Rattle.std.specs.Prelude.{ℕ, ◌-◌, Bool, not, ◌&&◌, if◌then◌else◌, List, [], ◌∷◌, ◌++◌, codes, bytes_eq, length, take, Option, Some, None}
+use Rattle.std.specs.Prelude.{ℕ, ◌+◌, ◌-◌, ◌^◌, min, Bool, not, ◌&&◌, if◌then◌else◌, List, [], ◌∷◌, ◌++◌, codes, bytes_eq, length, take, Option, Some, None}
 use Rattle.std.specs.List.{slice_get}
 use Rattle.timefd_lint_scan.specs.declared.alias.Alias.{Alias}
-use Rattle.timefd_lint_scan.specs.declared.calls.Argument.{Argument}
-use Rattle.timefd_lint_scan.specs.declared.calls.Argument.TheVariants.{First, Second, Later}
 use Rattle.timefd_lint_scan.specs.declared.calls.OpenBracket.{OpenBracket}
+use Rattle.timefd_lint_scan.specs.declared.own_call.OwnCall.{OwnCall}
 use Rattle.timefd_lint_scan.specs.declared.piece.PlacedToken.{PlacedToken}
 use Rattle.timefd_lint_scan.specs.declared.uses.Use.{Use}
 use Rattle.timefd_lint_scan.specs.Bytes.{Text}
@@ -17,10 +16,9 @@ innermost frames = slice_get frames (length frames - 1)
 abbrev pub but_last : List OpenBracket → List OpenBracket
 but_last frames = take (length frames - 1) frames
 
-abbrev pub next_argument : Argument → Argument
-next_argument First = Second
-next_argument Second = Later
-next_argument Later = Later
+-- the number after another, up to the largest
+abbrev pub next_argument : ℕ → ℕ
+next_argument argument = min (argument + 1) (2 ^ 64 - 1)
 
 abbrev pub with_comma : OpenBracket → OpenBracket
 with_comma frame = settled (record frame { argument = next_argument frame.argument })
@@ -45,9 +43,9 @@ with_innermost source ps us i frames (Some frame) = frames ++ after_token source
 abbrev pub replaced : Text → List PlacedToken → List Use → ℕ → List OpenBracket → List OpenBracket
 replaced source ps us i frames = with_innermost source ps us i (but_last frames) (innermost frames)
 
--- the brackets that are open after a token, with these aliases and uses of names
-abbrev pub passed : Text → List PlacedToken → List Alias → List Use → ℕ → List OpenBracket → List OpenBracket
-passed source ps aliases us i frames =
-    if is_opening (text_at source ps i) then frames ++ opened source ps aliases i (innermost frames) ∷ []
+-- the brackets that are open after a token, with these aliases, calls of the project and uses of names
+abbrev pub passed : Text → List PlacedToken → List Alias → List OwnCall → List Use → ℕ → List OpenBracket → List OpenBracket
+passed source ps aliases own us i frames =
+    if is_opening (text_at source ps i) then frames ++ opened source ps aliases own i (innermost frames) ∷ []
     else if is_closing (text_at source ps i) then replaced source ps us i (but_last frames)
     else replaced source ps us i frames

@@ -13,6 +13,7 @@ pub mod Scopes
 pub mod Declarations
 pub mod Aliases
 pub mod Calls
+pub mod OwnCalls
 pub mod Arguments
 pub mod Dates
 pub mod Attributes
@@ -20,6 +21,7 @@ pub mod Layouts
 pub mod AliasNotes
 pub mod KeptAliases
 pub mod Uses
+pub mod KeptTokens
 pub mod Kept
 pub mod FoundUses
 pub mod Following

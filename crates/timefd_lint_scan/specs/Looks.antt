@@ -3,6 +3,7 @@ use Rattle.std.specs.Prelude.{ℕ, ◌≡◌, ◌⊎◌, Bool, true, false, not,
 use Rattle.std.specs.List.{flat_map}
 use Rattle.timefd_lint_scan.specs.declared.description.SourceDescription.{SourceDescription}
 use Rattle.timefd_lint_scan.specs.declared.look.Look.{Look}
+use Rattle.timefd_lint_scan.specs.declared.own_call.OwnCall.{OwnCall}
 use Rattle.timefd_lint_scan.specs.declared.piece.PlacedToken.{PlacedToken}
 use Rattle.timefd_lint_scan.specs.declared.uses.Use.{Use}
 use Rattle.timefd_lint_scan.specs.Aliases.{aliases_in}
@@ -48,8 +49,8 @@ unread named has_chrono u = if is_unread named has_chrono u then u.name.start �
 abbrev pub unread_calls : (ℕ → Bool) → Bool → List Use → List ℕ
 unread_calls named has_chrono us = flat_map (unread named has_chrono) us
 
--- These names of calls don't name a text that is looked at. Other calls take it for a description by its name, or by that of a list that it is
--- in, over which other loops go.
+-- These calls take names of texts that aren't looked at. A text is looked at if a description is used by its name at another call
+-- (`lists`), or if a loop takes it from a list that is looked at for the variable of another loop (`named`).
 pub record AreUnread (source : Text) (ps : List PlacedToken) (us : List Use) (ds : List SourceDescription) (has_chrono : Bool)
     (calls : List ℕ) : Type 0 where
   pub taken : ℕ → Bool
@@ -61,15 +62,15 @@ pub record AreUnread (source : Text) (ps : List PlacedToken) (us : List Use) (ds
   pub unread : calls ≡ unread_calls named has_chrono us
 
 -- such names among the tokens of a source in which these descriptions are found
-abbrev pub AreUnreadCalls : Text → List PlacedToken → List SourceDescription → List ℕ → Type 0
-AreUnreadCalls source ps ds calls =
-    AreUnread source ps (uses_in source ps (aliases_in source ps)) ds (has_word source (codes "chrono") ps) calls
+abbrev pub AreUnreadCalls : Text → List OwnCall → List PlacedToken → List SourceDescription → List ℕ → Type 0
+AreUnreadCalls source own ps ds calls =
+    AreUnread source ps (uses_in source ps (aliases_in source own ps) own) ds (has_word source (codes "chrono") ps) calls
 
--- What is seen in a source that is cut into these tokens.
-pub record IsSeen (source : Text) (all : List PlacedToken) (look : Look) : Type 0 where
+-- What is seen in a source that is cut into these tokens, with these calls of its project.
+pub record IsSeen (source : Text) (own : List OwnCall) (all : List PlacedToken) (look : Look) : Type 0 where
   pub tokens : AreTokens (length source) source all
-  pub descriptions : AreDescribed source 0 (candidates source all) look.descriptions.items
-  pub calls : AreUnreadCalls source (significant all) look.descriptions.items look.calls.items
+  pub descriptions : AreDescribed source 0 (candidates source own all) look.descriptions.items
+  pub calls : AreUnreadCalls source own (significant all) look.descriptions.items look.calls.items
   pub comments : look.comments.items ≡ unknown_marks source all
 
 -- Nothing is seen.
@@ -79,5 +80,5 @@ pub record IsBlank (look : Look) : Type 0 where
   pub comments : look.comments.items ≡ []
 
 -- Nothing is seen in a source that has none of the names that descriptions come with.
-abbrev pub IsLook : Text → Look → Type 0
-IsLook source look = (HasNoName source × IsBlank look) ⊎ ((all : List PlacedToken) × IsSeen source all look)
+abbrev pub IsLook : Text → List OwnCall → Look → Type 0
+IsLook source own look = (HasNoName source own × IsBlank look) ⊎ ((all : List PlacedToken) × IsSeen source own all look)

@@ -1,6 +1,7 @@
 -- Names without which a source has no descriptions.
-use Rattle.std.specs.Prelude.{None, codes, ◌⊎◌}
+use Rattle.std.specs.Prelude.{None, ◌==◌, codes, ◌⊎◌, if◌then◌else◌, length, List, [], ◌∷◌, string_bytes, ⊤}
 use Rattle.memchr.specs.Find.{FindsNeedle, IsFirstByte, is_byte}
+use Rattle.timefd_lint_scan.specs.declared.own_call.OwnCall.{OwnCall}
 use Rattle.timefd_lint_scan.specs.Bytes.{Text}
 
 -- A word is nowhere in a source.
@@ -49,9 +50,19 @@ pub record HasNoCallOfJiff (source : Text) : Type 0 where
   pub strtime : Lacks source (codes "strtime")
   pub broken_down : Lacks source (codes "BrokenDownTime")
 
--- A source has none of the names that descriptions come with.
-pub record HasNoName (source : Text) : Type 0 where
+-- the first word of a call, without which no source has it
+abbrev pub word_of : OwnCall → Text
+word_of call = if length (string_bytes call.owner) == 0 then string_bytes call.name else string_bytes call.owner
+
+-- It has none of these calls of a project.
+abbrev pub HasNoOwn : Text → List OwnCall → Type 0
+HasNoOwn source [] = ⊤
+HasNoOwn source (call ∷ calls) = Lacks source (word_of call) × HasNoOwn source calls
+
+-- A source has none of the names that descriptions come with, and none of these calls of its project.
+pub record HasNoName (source : Text) (calls : List OwnCall) : Type 0 where
   pub macro : HasNoMacro source
   pub parser : HasNoParser source
   pub chrono : HasNoCallOfChrono source
   pub jiff : HasNoCallOfJiff source
+  pub own : HasNoOwn source calls

@@ -4,6 +4,7 @@ use Rattle.std.specs.List.{slice_get}
 use Rattle.std.specs.Option.{option_to_list}
 use Rattle.timefd_lint_scan.specs.declared.alias.Alias.{Alias}
 use Rattle.timefd_lint_scan.specs.declared.calls.OpenBracket.{OpenBracket}
+use Rattle.timefd_lint_scan.specs.declared.own_call.OwnCall.{OwnCall}
 use Rattle.timefd_lint_scan.specs.declared.piece.PlacedToken.{PlacedToken}
 use Rattle.timefd_lint_scan.specs.declared.known.Known.{Known}
 use Rattle.timefd_lint_scan.specs.declared.uses.Use.{Use}
@@ -64,14 +65,14 @@ abbrev pub use_at : Text → List PlacedToken → ℕ → PlacedToken → Option
 use_at source ps i p frame = use_reported source ps i p (pending_of frame)
 
 -- the uses among the tokens from an index on, with these open brackets
-abbrev pub in_calls_from : Text → List PlacedToken → List Alias → ℕ → List PlacedToken → List OpenBracket → List Use
-in_calls_from source ps aliases i [] frames = []
-in_calls_from source ps aliases i (p ∷ rest) frames =
-    option_to_list (use_at source ps i p (innermost (passed source ps aliases [] i frames)))
-    ++ in_calls_from source ps aliases (i + 1) rest (passed source ps aliases [] i frames)
+abbrev pub in_calls_from : Text → List PlacedToken → List Alias → List OwnCall → ℕ → List PlacedToken → List OpenBracket → List Use
+in_calls_from source ps aliases own i [] frames = []
+in_calls_from source ps aliases own i (p ∷ rest) frames =
+    option_to_list (use_at source ps i p (innermost (passed source ps aliases own [] i frames)))
+    ++ in_calls_from source ps aliases own (i + 1) rest (passed source ps aliases own [] i frames)
 
-abbrev pub in_calls : Text → List PlacedToken → List Alias → List Use
-in_calls source ps aliases = in_calls_from source ps aliases 0 ps (outermost ∷ [])
+abbrev pub in_calls : Text → List PlacedToken → List Alias → List OwnCall → List Use
+in_calls source ps aliases own = in_calls_from source ps aliases own 0 ps (outermost ∷ [])
 
 abbrev pub piece_after : List PlacedToken → ℕ → ℕ → Option PlacedToken
 piece_after ps i ahead = slice_get ps (i + ahead)
@@ -118,5 +119,5 @@ abbrev pub with_loops : Text → List PlacedToken → List Use → List Use
 with_loops source ps us = us ++ in_loops source ps us
 
 -- the uses in known calls, followed by the lists that loops go over
-abbrev pub uses_in : Text → List PlacedToken → List Alias → List Use
-uses_in source ps aliases = with_loops source ps (in_calls source ps aliases)
+abbrev pub uses_in : Text → List PlacedToken → List Alias → List OwnCall → List Use
+uses_in source ps aliases own = with_loops source ps (in_calls source ps aliases own)

@@ -4,6 +4,7 @@ ghost use Rattle.std.specs.Prelude.{◌≡◌};
 ghost use Rattle.timefd_lint_scan.specs.Aliases as spec;
 
 use crate::dialect::is;
+use crate::kept::KeptToken;
 use crate::piece::PlacedToken;
 use crate::word::{is_closing, is_opening, text_of};
 
@@ -19,12 +20,12 @@ pub struct Alias {
 }
 
 /// The tokens after the first one that is this sign; empty if there is no such token.
-pub fn after_first<'a>(source: &[u8], pieces: &'a [PlacedToken], sign: &str) -> &'a [PlacedToken]
+pub fn after_first<'a>(source: &[u8], pieces: &'a [KeptToken], sign: &str) -> &'a [KeptToken]
     ensures { result.now ≡ spec.after_first source.now sign.now pieces.now }
 {
     let mut rest = pieces;
     'tokens: while let [piece, after @ ..] = rest {
-        if is(text_of(source, *piece), sign) {
+        if is(piece.text(source), sign) {
             return after;
         }
         rest = after;
@@ -34,18 +35,18 @@ pub fn after_first<'a>(source: &[u8], pieces: &'a [PlacedToken], sign: &str) -> 
 
 /// Where the block that these tokens begin in ends: at the bracket that closes it, or at the end of
 /// the source.
-pub fn block_end(source: &[u8], pieces: &[PlacedToken]) -> usize
+pub fn block_end(source: &[u8], pieces: &[KeptToken]) -> usize
     ensures { result ≡ spec.block_end source.now 0 pieces.now }
 {
     let mut depth: usize = 0;
     let mut rest = pieces;
     'tokens: while let [piece, after @ ..] = rest {
-        let text = text_of(source, *piece);
+        let text = piece.text(source);
         if is_opening(text) {
             depth += 1;
         } else if is_closing(text) {
             if depth == 0 {
-                return piece.start;
+                return piece.start();
             }
             depth -= 1;
         }

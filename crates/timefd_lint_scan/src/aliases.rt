@@ -1,4 +1,4 @@
-//! The aliases of a source, among which names are looked up.
+//! The aliases of a source, among which names are looked up, and the calls of its project.
 
 ghost use Rattle.std.specs.HashMap.{get};
 ghost use Rattle.std.specs.Prelude.{◌≡◌, ◌<◌, drop, false, get_or, length, nat_eq, take};
@@ -10,16 +10,19 @@ ghost use Rattle.timefd_lint_scan.specs.Layouts as layouts;
 use crate::alias::{Alias, first_named};
 use crate::alias_notes::{AliasNote, AliasNotes, LastAlias, last_at};
 use crate::fingerprint::fingerprint;
+use crate::own_call::OwnCall;
 use crate::piece::PlacedToken;
 use crate::word::text_of;
 
-/// Aliases, and what is noted about them.
+/// Aliases, what is noted about them, and the calls of the project.
 #[derive(Clone, Copy)]
 pub struct Aliases<'a> {
     /// The aliases, in the order in which they count.
     pub list: &'a [Alias],
     /// What is noted about them.
     pub notes: &'a AliasNotes,
+    /// The calls that the settings of the source's project name.
+    pub own: &'a [OwnCall],
 }
 
 // What is kept for a name.

@@ -4,12 +4,12 @@ ghost use Rattle.std.specs.Prelude.{◌≡◌};
 ghost use Rattle.timefd_lint_scan.specs.Attributes as spec;
 
 use crate::dialect::{FormatLanguage, is};
+use crate::kept::KeptToken;
 use crate::known::{Items, Known};
-use crate::piece::PlacedToken;
 use crate::version::VersionPosition;
 use crate::word::{text_at, text_before};
 
-fn is_in_attribute(source: &[u8], pieces: &[PlacedToken], index: usize) -> bool
+fn is_in_attribute(source: &[u8], pieces: &[KeptToken], index: usize) -> bool
     ensures { result ≡ spec.is_in_attribute source.now pieces.now index }
 {
     is(text_before(source, pieces, index, 1), "=")
@@ -32,7 +32,7 @@ fn dialect_by_bytes(literal: &[u8]) -> FormatLanguage
 }
 
 /// What an attribute says about a token; `None` if the token isn't in such an attribute.
-pub fn known_by_attribute(source: &[u8], pieces: &[PlacedToken], index: usize) -> Option<Known>
+pub fn known_by_attribute(source: &[u8], pieces: &[KeptToken], index: usize) -> Option<Known>
     ensures { result ≡ spec.known_by_attribute source.now pieces.now index }
 {
     if is_in_attribute(source, pieces, index) {

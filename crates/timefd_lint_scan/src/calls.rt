@@ -6,8 +6,8 @@ ghost use Rattle.timefd_lint_scan.specs.KeptAliases.{AreAliases};
 
 use crate::aliases::{Aliases, original_of, real_name};
 use crate::dialect::{FormatLanguage, is, version_named};
+use crate::kept::KeptToken;
 use crate::known::Known;
-use crate::piece::PlacedToken;
 use crate::word::{position_at, text_before, text_of};
 
 /// Which arguments of a call are descriptions.
@@ -23,16 +23,10 @@ pub enum Call {
     Second(FormatLanguage),
     /// The first is a description of chrono if it looks like a date format: `format` is a common name.
     Format,
+    /// That with this number, counted from 0, is a description: the settings of a project say so.
+    Own(FormatLanguage, usize),
     /// None is known to be a description.
     Other,
-}
-
-/// Which argument of a call.
-#[derive(Clone, Copy)]
-pub enum Argument {
-    First,
-    Second,
-    Later,
 }
 
 /// An open bracket.
@@ -42,8 +36,8 @@ pub struct OpenBracket {
     pub opened: usize,
     /// The call whose arguments it holds.
     pub call: Call,
-    /// Which argument comes after the commas so far.
-    pub argument: Argument,
+    /// Which argument comes after the commas so far, counted from 0.
+    pub argument: usize,
     /// What is known about the value of the whole bracket.
     pub passes: Option<Known>,
     /// What is known about the expression that follows what was read so far.
@@ -53,7 +47,7 @@ pub struct OpenBracket {
 }
 
 /// The call whose arguments are in the bracket that this token opens, with these aliases declared.
-pub fn call_of(source: &[u8], pieces: &[PlacedToken], aliases: Aliases<'_>, opening: usize) -> Call
+pub fn call_of(source: &[u8], pieces: &[KeptToken], aliases: Aliases<'_>, opening: usize) -> Call
     requires { AreAliases source.now aliases }
     ensures { result ≡ spec.call_of source.now pieces.now aliases.entry.list.now opening }
 {
@@ -96,7 +90,7 @@ fn call_imported(name: &[u8]) -> Call
     }
 }
 
-fn is_after_path(source: &[u8], pieces: &[PlacedToken], opening: usize) -> bool
+fn is_after_path(source: &[u8], pieces: &[KeptToken], opening: usize) -> bool
     ensures { result ≡ spec.is_after_path source.now pieces.now opening }
 {
     is(text_before(source, pieces, opening, 2), ":")
@@ -235,7 +229,8 @@ fn call_named(name: &[u8]) -> Call
     }
 }
 
-fn is_turbofish(source: &[u8], pieces: &[PlacedToken], opening: usize) -> bool
+/// Whether a type in brackets is between a call's name and this token: `f::<2>(`.
+pub fn is_turbofish(source: &[u8], pieces: &[KeptToken], opening: usize) -> bool
     ensures { result ≡ spec.is_turbofish source.now pieces.now opening }
 {
     is(text_before(source, pieces, opening, 3), "<")
@@ -255,7 +250,7 @@ fn parser_by(name: &[u8], dialect: Option<FormatLanguage>) -> Call
 /// A call with a version after its name: `parse_borrowed::<2>(`.
 fn call_with_version(
     source: &[u8],
-    pieces: &[PlacedToken],
+    pieces: &[KeptToken],
     aliases: Aliases<'_>,
     opening: usize,
 ) -> Call

@@ -7,6 +7,7 @@ use crate::attribute::known_by_attribute;
 use crate::calls::OpenBracket;
 use crate::dialect::FormatLanguage;
 use crate::flow::known_of;
+use crate::kept::{KeptToken, kept_token};
 use crate::known::{Items, Known, reported_in};
 use crate::piece::PlacedToken;
 use crate::token::{LiteralKind, Token};
@@ -55,11 +56,11 @@ fn is_significant(token: Token) -> bool
 }
 
 /// Adds a token, if it is neither white nor a comment. An `Err` says that memory ran out.
-pub fn keep(kept: &mut Vec<PlacedToken>, piece: PlacedToken) -> Result<(), AllocError>
+pub fn keep(kept: &mut Vec<KeptToken>, piece: PlacedToken) -> Result<(), AllocError>
     ensures { OnOk result (kept.new.items ≡ kept.old.items ++ spec.kept piece) }
 {
     if is_significant(piece.token) {
-        kept.push(piece)?;
+        kept.push(kept_token(piece)?)?;
     }
     Ok(())
 }
@@ -96,7 +97,7 @@ fn candidate_from(
 /// is in, then what its value is passed to, then its attribute.
 pub fn candidate_at(
     source: &[u8],
-    pieces: &[PlacedToken],
+    pieces: &[KeptToken],
     index: usize,
     piece: PlacedToken,
     frame: Option<OpenBracket>,

@@ -15,6 +15,7 @@ use crate::dates::is_of_dates;
 use crate::dialect::FormatLanguage;
 use crate::flow::outermost;
 use crate::frames::{innermost, pass};
+use crate::kept::KeptToken;
 use crate::known::Items;
 use crate::literal::literal_text;
 use crate::marks::{LanguageMark, reported_at, still_open};
@@ -124,12 +125,12 @@ pub fn push_any(
     }
 }
 
-/// The descriptions among these tokens, with these aliases, uses of names, and comments that name a language.
+/// The descriptions among these tokens, with these aliases and calls of the project, uses of names, and comments that name a language.
 /// An `Err` says that memory ran out.
 pub fn described_by(
     alloc: Global,
     source: &str,
-    pieces: &[PlacedToken],
+    pieces: &[KeptToken],
     aliases: Aliases<'_>,
     uses: Uses<'_>,
     marks: &[LanguageMark],
@@ -137,7 +138,7 @@ pub fn described_by(
     requires found { IsFound source.now pieces.now uses }
     requires aliases { AreAliases source.now aliases }
     ensures { IfOk result (λ found. AreDescribed source.now 0
-        (candidates_by source.now pieces.now aliases.entry.list.now uses.entry.list.now marks.now) found.items) }
+        (candidates_by source.now pieces.now aliases.entry.list.now aliases.entry.own.now uses.entry.list.now marks.now) found.items) }
 {
     let mut frames = Vec::new(alloc);
     frames.push(outermost())?;
@@ -146,10 +147,11 @@ pub fn described_by(
     let mut end = 0;
     for (index, piece) in pieces.iter().enumerate() {
         pass(&mut frames, source.as_bytes(), pieces, aliases, uses, index)?;
+        let piece = piece.placed();
         comments = still_open(comments, piece.start);
         let dialect = reported_at(comments, piece.start);
         let frame = innermost(&frames);
-        let candidate = candidate_at(source.as_bytes(), pieces, index, *piece, frame, dialect);
+        let candidate = candidate_at(source.as_bytes(), pieces, index, piece, frame, dialect);
         let found = described_any(alloc, source, candidate)?;
         end = push_any(&mut descriptions, found, end)?;
     }

@@ -1,7 +1,5 @@
 //! What is seen in a source and in the examples of its doc comments.
 
-ghost use Rattle.std.specs.Prelude.{IfOk};
-ghost use Rattle.timefd_lint_scan.specs.Found.{AllStandIn, AreInOrder};
 
 use crate::candidate::CandidateLiteral;
 use crate::description::{SourceDescription, described_any, push_any};
@@ -11,6 +9,7 @@ use crate::known::Known;
 use crate::line::from;
 use crate::look::{Look, look_of};
 use crate::names::may_describe;
+use crate::own_call::OwnCall;
 use crate::piece::PlacedToken;
 use crate::version::VersionPosition;
 use memchr::{memchr, memmem};
@@ -99,11 +98,16 @@ fn push_moved(
 }
 
 // Looks into an example.
-fn look_into(alloc: Global, examples: &mut Examples, test: &DocTest) -> Result<(), AllocError> {
+fn look_into(
+    alloc: Global,
+    examples: &mut Examples,
+    test: &DocTest,
+    own: &[OwnCall],
+) -> Result<(), AllocError> {
     let Ok(code) = str::from_utf8(&test.code) else {
         return Ok(());
     };
-    let look = look_of(alloc, code)?;
+    let look = look_of(alloc, code, own)?;
     for description in &look.descriptions {
         push_found(examples, test, description)?;
     }
@@ -129,7 +133,7 @@ fn has_fence(source: &[u8]) -> bool {
 }
 
 /// What is seen in the examples of a source. An `Err` says that memory ran out.
-fn examples_in(alloc: Global, source: &str) -> Result<Examples, AllocError> {
+fn examples_in(alloc: Global, source: &str, own: &[OwnCall]) -> Result<Examples, AllocError> {
     let mut examples = none(alloc);
     if !has_fence(source.as_bytes()) {
         return Ok(examples);
@@ -137,7 +141,7 @@ fn examples_in(alloc: Global, source: &str) -> Result<Examples, AllocError> {
     let comments = comments_of(alloc, source)?;
     let tests = doc_tests_of(alloc, source.as_bytes(), &comments)?;
     for test in &tests {
-        look_into(alloc, &mut examples, test)?;
+        look_into(alloc, &mut examples, test, own)?;
     }
     Ok(examples)
 }
@@ -217,21 +221,22 @@ fn merged(alloc: Global, one: &[usize], other: &[usize]) -> Result<Vec<usize>, A
     Ok(all)
 }
 
-/// Looks for descriptions in a source and in the examples of its doc comments. An `Err` says that memory ran out.
-pub fn looked_at(alloc: Global, source: &str) -> Result<Look, AllocError> {
+/// Looks for descriptions in a source and in the examples of its doc comments, with these calls of its project. An `Err`
+/// says that memory ran out.
+pub fn looked_at(alloc: Global, source: &str, own: &[OwnCall]) -> Result<Look, AllocError> {
     let Look {
         descriptions,
         calls,
         comments,
-    } = look_of(alloc, source)?;
-    if !may_describe(source.as_bytes()) {
+    } = look_of(alloc, source, own)?;
+    if !may_describe(source.as_bytes(), own) {
         return Ok(Look {
             descriptions,
             calls,
             comments,
         });
     }
-    let examples = examples_in(alloc, source)?;
+    let examples = examples_in(alloc, source, own)?;
     let descriptions = joined(alloc, source, descriptions, &examples.candidates)?;
     let unread = merged(alloc, &examples.calls, &examples.long)?;
     Ok(Look {
@@ -241,9 +246,14 @@ pub fn looked_at(alloc: Global, source: &str) -> Result<Look, AllocError> {
     })
 }
 
-/// The descriptions in a source, in order: arguments of known calls, what such a call gets by a name of the
-/// same file or example, and literals for which a comment names a language. An `Err` says that memory ran out.
-pub fn descriptions_of(alloc: Global, source: &str) -> Result<Vec<SourceDescription>, AllocError> {
-    let seen = looked_at(alloc, source)?;
+/// The descriptions in a source, in order: arguments of known calls and of these calls of its project, what such a call
+/// gets by a name of the same file or example, and literals for which a comment names a language. An `Err` says that
+/// memory ran out.
+pub fn descriptions_of(
+    alloc: Global,
+    source: &str,
+    own: &[OwnCall],
+) -> Result<Vec<SourceDescription>, AllocError> {
+    let seen = looked_at(alloc, source, own)?;
     Ok(seen.descriptions)
 }

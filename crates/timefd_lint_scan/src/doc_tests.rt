@@ -5,8 +5,6 @@ mod fence;
 mod info;
 mod line;
 
-ghost use Rattle.std.specs.Prelude.{IfOk, OnOk};
-ghost use Rattle.timefd_lint_scan.specs.DocTests as spec;
 
 use crate::class::{ByteSet, after_run};
 use crate::doc_tests::code::push_code;

@@ -6,10 +6,11 @@ ghost use Rattle.timefd_lint_scan.specs.FoundUses.{IsFound};
 ghost use Rattle.timefd_lint_scan.specs.KeptAliases.{AreAliases};
 
 use crate::aliases::Aliases;
-use crate::calls::{Argument, Call, OpenBracket, call_of};
+use crate::call_names::call_at;
+use crate::calls::{Call, OpenBracket};
 use crate::dialect::is;
+use crate::kept::KeptToken;
 use crate::known::{Known, known_by_call};
-use crate::piece::PlacedToken;
 use crate::uses::{Uses, known_by_name};
 use crate::value::{is_operator, is_value};
 use crate::word::{is_word_at, text_after, text_at, text_before};
@@ -43,12 +44,7 @@ fn with_pending(frame: OpenBracket, pending: Option<Known>) -> OpenBracket
 }
 
 /// A colon is followed by a type, or the value of a field.
-fn after_colon(
-    source: &[u8],
-    pieces: &[PlacedToken],
-    index: usize,
-    frame: OpenBracket,
-) -> OpenBracket
+fn after_colon(source: &[u8], pieces: &[KeptToken], index: usize, frame: OpenBracket) -> OpenBracket
     ensures { result ≡ spec.after_colon source.now pieces.now index frame }
 {
     if is(text_before(source, pieces, index, 1), ":")
@@ -68,7 +64,7 @@ fn after_colon(
 /// whole expression.
 fn assigned(
     source: &[u8],
-    pieces: &[PlacedToken],
+    pieces: &[KeptToken],
     uses: Uses<'_>,
     index: usize,
     frame: OpenBracket,
@@ -85,7 +81,7 @@ fn assigned(
 
 fn after_equals_sign(
     source: &[u8],
-    pieces: &[PlacedToken],
+    pieces: &[KeptToken],
     uses: Uses<'_>,
     index: usize,
     frame: OpenBracket,
@@ -112,7 +108,7 @@ fn is_condition(text: &[u8]) -> bool
 }
 
 /// Whether a token is the name of a constant, or of a variable.
-pub fn names_value(source: &[u8], pieces: &[PlacedToken], index: usize) -> bool
+pub fn names_value(source: &[u8], pieces: &[KeptToken], index: usize) -> bool
     ensures { result ≡ spec.names_value source.now pieces.now index }
 {
     let before = text_before(source, pieces, index, 1);
@@ -124,7 +120,7 @@ pub fn names_value(source: &[u8], pieces: &[PlacedToken], index: usize) -> bool
 /// The bracket after a word: `let`, the name of an item or of a variable, `in`.
 fn after_word(
     source: &[u8],
-    pieces: &[PlacedToken],
+    pieces: &[KeptToken],
     uses: Uses<'_>,
     index: usize,
     frame: OpenBracket,
@@ -155,7 +151,7 @@ fn after_word(
 /// The innermost bracket after a token that neither opens nor closes one and isn't a comma.
 pub fn entered(
     source: &[u8],
-    pieces: &[PlacedToken],
+    pieces: &[KeptToken],
     uses: Uses<'_>,
     index: usize,
     frame: OpenBracket,
@@ -183,7 +179,7 @@ fn is_handing_on(name: &[u8]) -> bool
 }
 
 /// Whether the round bracket that a token opens only groups a value, or is a call that passes it on.
-fn is_group(source: &[u8], pieces: &[PlacedToken], index: usize) -> bool
+fn is_group(source: &[u8], pieces: &[KeptToken], index: usize) -> bool
     ensures { result ≡ spec.is_group source.now pieces.now index }
 {
     let before = text_before(source, pieces, index, 1);
@@ -197,7 +193,7 @@ fn is_group(source: &[u8], pieces: &[PlacedToken], index: usize) -> bool
 }
 
 /// Whether the square bracket that a token opens is an array or a `vec![..]`.
-fn is_array(source: &[u8], pieces: &[PlacedToken], index: usize) -> bool
+fn is_array(source: &[u8], pieces: &[KeptToken], index: usize) -> bool
     ensures { result ≡ spec.is_array source.now pieces.now index }
 {
     let before = text_before(source, pieces, index, 1);
@@ -212,7 +208,7 @@ fn is_array(source: &[u8], pieces: &[PlacedToken], index: usize) -> bool
 }
 
 /// Whether the value of the bracket that a token opens is one of the values inside.
-fn is_around_values(source: &[u8], pieces: &[PlacedToken], index: usize) -> bool
+fn is_around_values(source: &[u8], pieces: &[KeptToken], index: usize) -> bool
     ensures { result ≡ spec.is_around_values source.now pieces.now index }
 {
     let text = text_at(source, pieces, index);
@@ -239,7 +235,7 @@ pub fn pending_of(frame: Option<OpenBracket>) -> Option<Known>
 /// arguments of a known call.
 fn passed_into(
     source: &[u8],
-    pieces: &[PlacedToken],
+    pieces: &[KeptToken],
     index: usize,
     call: Call,
     outer: Option<OpenBracket>,
@@ -253,27 +249,28 @@ fn passed_into(
         | Call::First(_)
         | Call::Owned(_)
         | Call::Second(_)
-        | Call::Format => None,
+        | Call::Format
+        | Call::Own(_, _) => None,
     }
 }
 
 /// The bracket that a token opens, inside of another one.
 pub fn opened(
     source: &[u8],
-    pieces: &[PlacedToken],
+    pieces: &[KeptToken],
     aliases: Aliases<'_>,
     index: usize,
     outer: Option<OpenBracket>,
 ) -> OpenBracket
     requires { AreAliases source.now aliases }
-    ensures { result ≡ spec.opened source.now pieces.now aliases.entry.list.now index outer }
+    ensures { result ≡ spec.opened source.now pieces.now aliases.entry.list.now aliases.entry.own.now index outer }
 {
-    let call = call_of(source, pieces, aliases, index);
+    let call = call_at(source, pieces, aliases, index);
     let passes = passed_into(source, pieces, index, call, outer);
     settled(OpenBracket {
         opened: index,
         call,
-        argument: Argument::First,
+        argument: 0,
         passes,
         pending: None,
         name: None,
@@ -287,7 +284,7 @@ pub fn outermost() -> OpenBracket
     OpenBracket {
         opened: 0,
         call: Call::Other,
-        argument: Argument::First,
+        argument: 0,
         passes: None,
         pending: None,
         name: None,
@@ -297,7 +294,7 @@ pub fn outermost() -> OpenBracket
 /// What is known about a token that is a whole value, because of what the value is passed to.
 pub fn known_of(
     source: &[u8],
-    pieces: &[PlacedToken],
+    pieces: &[KeptToken],
     index: usize,
     frame: Option<OpenBracket>,
 ) -> Option<Known>

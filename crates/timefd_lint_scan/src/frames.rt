@@ -6,10 +6,10 @@ ghost use Rattle.timefd_lint_scan.specs.FoundUses.{IsFound};
 ghost use Rattle.timefd_lint_scan.specs.KeptAliases.{AreAliases};
 
 use crate::aliases::Aliases;
-use crate::calls::{Argument, OpenBracket};
+use crate::calls::OpenBracket;
 use crate::dialect::is;
 use crate::flow::{entered, opened, settled};
-use crate::piece::PlacedToken;
+use crate::kept::KeptToken;
 use crate::uses::Uses;
 use crate::word::{is_closing, is_opening, text_after, text_at};
 use std::alloc::AllocError;
@@ -31,13 +31,10 @@ fn close(frames: &mut Vec<OpenBracket>) -> Option<OpenBracket>
     closed
 }
 
-fn next_argument(argument: Argument) -> Argument
+fn next_argument(argument: usize) -> usize
     ensures { result ≡ spec.next_argument argument }
 {
-    match argument {
-        Argument::First => Argument::Second,
-        Argument::Second | Argument::Later => Argument::Later,
-    }
+    argument.saturating_add(1)
 }
 
 fn with_comma(frame: OpenBracket) -> OpenBracket
@@ -49,7 +46,7 @@ fn with_comma(frame: OpenBracket) -> OpenBracket
 
 /// Whether another statement, arm or argument begins after a closing token: after a block that no `else`
 /// follows.
-fn is_end(source: &[u8], pieces: &[PlacedToken], index: usize) -> bool
+fn is_end(source: &[u8], pieces: &[KeptToken], index: usize) -> bool
     ensures { result ≡ spec.is_end source.now pieces.now index }
 {
     is(text_at(source, pieces, index), "}") && !is(text_after(source, pieces, index, 1), "else")
@@ -58,7 +55,7 @@ fn is_end(source: &[u8], pieces: &[PlacedToken], index: usize) -> bool
 /// The innermost bracket after a token that doesn't open one.
 fn after_token(
     source: &[u8],
-    pieces: &[PlacedToken],
+    pieces: &[KeptToken],
     uses: Uses<'_>,
     index: usize,
     frame: OpenBracket,
@@ -84,7 +81,7 @@ fn after_token(
 fn replace(
     frames: &mut Vec<OpenBracket>,
     source: &[u8],
-    pieces: &[PlacedToken],
+    pieces: &[KeptToken],
     uses: Uses<'_>,
     index: usize,
 ) -> Result<(), AllocError>
@@ -106,7 +103,7 @@ fn replace(
 pub fn pass(
     frames: &mut Vec<OpenBracket>,
     source: &[u8],
-    pieces: &[PlacedToken],
+    pieces: &[KeptToken],
     aliases: Aliases<'_>,
     uses: Uses<'_>,
     index: usize,
@@ -114,7 +111,8 @@ pub fn pass(
     requires found { IsFound source.now pieces.now uses }
     requires aliases { AreAliases source.now aliases }
     ensures { OnOk result (frames.new.items
-        ≡ spec.passed source.now pieces.now aliases.entry.list.now uses.entry.list.now index frames.old.items) }
+        ≡ spec.passed source.now pieces.now aliases.entry.list.now aliases.entry.own.now uses.entry.list.now index
+        frames.old.items) }
 {
     let text = text_at(source, pieces, index);
     if is_opening(text) {

@@ -4,6 +4,7 @@ ghost use Rattle.std.specs.Prelude.{◌≡◌, ◌++◌, IfOk, OnOk};
 ghost use Rattle.timefd_lint_scan.specs.Gathered.{AreComments, AreGathered, comment_kept};
 
 use crate::candidate::keep;
+use crate::kept::KeptToken;
 use crate::marks::is_comment;
 use crate::piece::PlacedToken;
 use crate::token::first;
@@ -13,7 +14,7 @@ use std::alloc::{AllocError, Global};
 #[derive(Drop)]
 pub struct Gathered {
     /// Those that are neither white nor comments, in order.
-    pub pieces: Vec<PlacedToken>,
+    pub pieces: Vec<KeptToken>,
     /// The comments, in order.
     pub comments: Vec<PlacedToken>,
 }

@@ -8,7 +8,9 @@ ghost use Rattle.timefd_lint_scan.specs.Kept.{IsLayout};
 
 use crate::alias::{Alias, after_first, block_end};
 use crate::dialect::is;
+use crate::kept::KeptToken;
 use crate::layout::{TokenLayout, end_after};
+use crate::own_call::{OwnCall, is_of_own};
 use crate::piece::PlacedToken;
 use crate::word::{text_at, text_of, tokens_after};
 use std::alloc::{AllocError, Global};
@@ -35,7 +37,7 @@ fn ends_import(text: &[u8]) -> bool
 }
 
 /// Where the block ends that the statement of these tokens is in, if it isn't known already.
-fn until_of(source: &[u8], pieces: &[PlacedToken], until: Option<usize>) -> usize
+fn until_of(source: &[u8], pieces: &[KeptToken], until: Option<usize>) -> usize
     requires { IsUntil source.now pieces.now until }
     ensures { result ≡ spec.statement_end source.now pieces.now }
 {
@@ -50,7 +52,7 @@ fn alias_of(
     source: &[u8],
     name: PlacedToken,
     original: PlacedToken,
-    after: &[PlacedToken],
+    after: &[KeptToken],
     until: Option<usize>,
 ) -> Alias
     requires { IsUntil source.now after.now until }
@@ -67,15 +69,19 @@ fn alias_of(
 fn renamed(
     source: &[u8],
     original: PlacedToken,
-    after: &[PlacedToken],
+    after: &[KeptToken],
     until: Option<usize>,
 ) -> Option<Alias>
     requires { IsUntil source.now after.now until }
     ensures { result ≡ spec.renamed source.now original after.now }
 {
     match after {
-        [sign, name, ..] if is(text_of(source, *sign), "as") => Some(alias_of(
-            source, *name, original, after, until,
+        [sign, name, ..] if is(sign.text(source), "as") => Some(alias_of(
+            source,
+            name.placed(),
+            original,
+            after,
+            until,
         )),
         _ => None,
     }
@@ -85,7 +91,7 @@ fn renamed(
 fn imported(
     source: &[u8],
     original: PlacedToken,
-    after: &[PlacedToken],
+    after: &[KeptToken],
     until: Option<usize>,
 ) -> Option<Alias>
     requires { IsUntil source.now after.now until }
@@ -104,7 +110,7 @@ fn imported(
 fn passed(
     source: &[u8],
     piece: PlacedToken,
-    after: &[PlacedToken],
+    after: &[KeptToken],
     until: Option<usize>,
 ) -> Option<usize>
     requires { IsUntil source.now (piece ∷ after.now) until }
@@ -118,35 +124,40 @@ fn passed(
 }
 
 /// The import of `parse` in this list of names.
-fn parse_in_list(source: &[u8], pieces: &[PlacedToken], until: Option<usize>) -> Option<Alias>
+fn parse_in_list(source: &[u8], pieces: &[KeptToken], until: Option<usize>) -> Option<Alias>
     requires { IsUntil source.now pieces.now until }
     ensures { result ≡ spec.parse_in_list source.now pieces.now }
 {
     let mut known = until;
     let mut rest = pieces;
     'tokens: while let [piece, after @ ..] = rest {
-        let text = text_of(source, *piece);
+        let text = piece.text(source);
         if is(text, "}") {
             return None;
         }
         if is(text, "parse") {
-            return imported(source, *piece, after, passed(source, *piece, after, known));
+            return imported(
+                source,
+                piece.placed(),
+                after,
+                passed(source, piece.placed(), after, known),
+            );
         }
-        known = passed(source, *piece, after, known);
+        known = passed(source, piece.placed(), after, known);
         rest = after;
     }
     None
 }
 
 /// The import of `parse` that follows the path of its module.
-fn parse_after(source: &[u8], pieces: &[PlacedToken], until: Option<usize>) -> Option<Alias>
+fn parse_after(source: &[u8], pieces: &[KeptToken], until: Option<usize>) -> Option<Alias>
     requires { IsUntil source.now pieces.now until }
     ensures { result ≡ spec.parse_after source.now pieces.now }
 {
     match pieces {
         [first, second, next, after @ ..]
-            if is(text_of(source, *first), ":") && is(text_of(source, *second), ":") => {
-            parse_or_list(source, *next, after, until)
+            if is(first.text(source), ":") && is(second.text(source), ":") => {
+            parse_or_list(source, next, after, until)
         }
         _ => None,
     }
@@ -154,19 +165,19 @@ fn parse_after(source: &[u8], pieces: &[PlacedToken], until: Option<usize>) -> O
 
 fn parse_or_list(
     source: &[u8],
-    next: PlacedToken,
-    after: &[PlacedToken],
+    next: &KeptToken,
+    after: &[KeptToken],
     until: Option<usize>,
 ) -> Option<Alias>
-    requires { IsUntil source.now (next ∷ after.now) until }
-    ensures { result ≡ spec.parse_or_list source.now next after.now }
+    requires { IsUntil source.now (next.now ∷ after.now) until }
+    ensures { result ≡ spec.parse_or_list source.now next.now after.now }
 {
-    let text = text_of(source, next);
-    let until = passed(source, next, after, until);
+    let text = next.text(source);
+    let until = passed(source, next.placed(), after, until);
     if is(text, "{") {
         parse_in_list(source, after, until)
     } else if is(text, "parse") {
-        imported(source, next, after, until)
+        imported(source, next.placed(), after, until)
     } else {
         None
     }
@@ -175,15 +186,16 @@ fn parse_or_list(
 /// The alias that is declared at a token. The other tokens follow it.
 fn alias_at(
     source: &[u8],
+    own: &[OwnCall],
     piece: PlacedToken,
-    after: &[PlacedToken],
+    after: &[KeptToken],
     until: Option<usize>,
 ) -> Option<Alias>
     requires { IsUntil source.now after.now until }
-    ensures { result ≡ spec.alias_at source.now piece after.now }
+    ensures { result ≡ spec.alias_at source.now own.now piece after.now }
 {
     let text = text_of(source, piece);
-    if !is_known(text) {
+    if !is_known(text) && !is_of_own(own, text) {
         return None;
     }
     match renamed(source, piece, after, until) {
@@ -205,25 +217,29 @@ fn push_any(aliases: &mut Vec<Alias>, alias: Option<Alias>) -> Result<(), AllocE
     }
 }
 
-/// The aliases that a source declares, in order. They are looked for from the end, since there it is known where blocks end. An `Err`
+/// The aliases that a source declares, in order: of known names, and of those of these calls of its project. They are looked for from the end, since there it is known where blocks end. An `Err`
 /// says that memory ran out.
 pub fn aliases_of(
     alloc: Global,
     source: &[u8],
-    pieces: &[PlacedToken],
+    own: &[OwnCall],
+    pieces: &[KeptToken],
     layout: &TokenLayout,
 ) -> Result<Vec<Alias>, AllocError>
     requires { IsLayout source.now pieces.now layout.now }
-    ensures { IfOk result (λ aliases. aliases.items ≡ spec.aliases_in source.now pieces.now) }
+    ensures { IfOk result (λ aliases. aliases.items ≡ spec.aliases_in source.now own.now pieces.now) }
 {
     let mut aliases = Vec::new(alloc);
     let mut until = source.len();
     let mut left = pieces.len();
     'tokens: while left > 0 {
         left -= 1;
-        let piece = pieces[left];
+        let piece = pieces[left].placed();
         let after = tokens_after(pieces, left);
-        push_any(&mut aliases, alias_at(source, piece, after, Some(until)))?;
+        push_any(
+            &mut aliases,
+            alias_at(source, own, piece, after, Some(until)),
+        )?;
         if is(text_of(source, piece), ";") {
             until = end_after(source, pieces, layout, left);
         }

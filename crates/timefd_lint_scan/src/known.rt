@@ -4,13 +4,13 @@
 ghost use Rattle.std.specs.Prelude.{◌≡◌, ◌+◌, nat_eq};
 ghost use Rattle.timefd_lint_scan.specs.Arguments as spec;
 
-use crate::calls::{Argument, Call, OpenBracket};
+use crate::calls::{Call, OpenBracket};
 use crate::dialect::{FormatLanguage, is, version_named};
-use crate::piece::PlacedToken;
+use crate::kept::KeptToken;
 use crate::version::VersionPosition;
 use crate::word::{is_closing, is_opening, text_after, text_before};
 
-fn says_version(source: &[u8], pieces: &[PlacedToken], opening: usize) -> bool
+fn says_version(source: &[u8], pieces: &[KeptToken], opening: usize) -> bool
     ensures { result ≡ spec.says_version source.now pieces.now opening }
 {
     is(text_after(source, pieces, opening, 1), "version")
@@ -18,7 +18,7 @@ fn says_version(source: &[u8], pieces: &[PlacedToken], opening: usize) -> bool
 }
 
 /// The version that the arguments of a macro begin with; 1 if they don't begin with one.
-fn macro_version(source: &[u8], pieces: &[PlacedToken], opening: usize) -> Option<FormatLanguage>
+fn macro_version(source: &[u8], pieces: &[KeptToken], opening: usize) -> Option<FormatLanguage>
     ensures { result ≡ spec.macro_version source.now pieces.now opening }
 {
     if says_version(source, pieces, opening) {
@@ -29,7 +29,7 @@ fn macro_version(source: &[u8], pieces: &[PlacedToken], opening: usize) -> Optio
 }
 
 /// Whether a token is a whole argument.
-fn is_argument(source: &[u8], pieces: &[PlacedToken], index: usize) -> bool
+fn is_argument(source: &[u8], pieces: &[KeptToken], index: usize) -> bool
     ensures { result ≡ spec.is_argument source.now pieces.now index }
 {
     let before = text_before(source, pieces, index, 1);
@@ -38,7 +38,7 @@ fn is_argument(source: &[u8], pieces: &[PlacedToken], index: usize) -> bool
 }
 
 /// Whether a token is the last argument of its bracket.
-fn is_last(source: &[u8], pieces: &[PlacedToken], index: usize) -> bool
+fn is_last(source: &[u8], pieces: &[KeptToken], index: usize) -> bool
     ensures { result ≡ spec.is_last source.now pieces.now index }
 {
     let after = text_after(source, pieces, index, 1);
@@ -46,33 +46,33 @@ fn is_last(source: &[u8], pieces: &[PlacedToken], index: usize) -> bool
 }
 
 /// The first byte of the token `back` tokens before this one, as the digit of a version.
-fn digit_before(pieces: &[PlacedToken], index: usize, back: usize) -> VersionPosition
+fn digit_before(pieces: &[KeptToken], index: usize, back: usize) -> VersionPosition
     ensures { result ≡ spec.digit_before pieces.now index back }
 {
     if back > index {
         return VersionPosition::Elsewhere;
     }
     match pieces.get(index - back) {
-        Some(piece) => VersionPosition::Digit(piece.start),
+        Some(piece) => VersionPosition::Digit(piece.start()),
         None => VersionPosition::Elsewhere,
     }
 }
 
 /// The first byte of the token `ahead` tokens after this one, as the digit of a version.
-fn digit_after(pieces: &[PlacedToken], index: usize, ahead: usize) -> VersionPosition
+fn digit_after(pieces: &[KeptToken], index: usize, ahead: usize) -> VersionPosition
     ensures { result ≡ spec.digit_after pieces.now index ahead }
 {
     let Some(at) = index.checked_add(ahead) else {
         return VersionPosition::Elsewhere;
     };
     match pieces.get(at) {
-        Some(piece) => VersionPosition::Digit(piece.start),
+        Some(piece) => VersionPosition::Digit(piece.start()),
         None => VersionPosition::Elsewhere,
     }
 }
 
 /// Whether a module follows the version in the arguments of a macro, as in the macro for serde.
-fn says_module(source: &[u8], pieces: &[PlacedToken], opening: usize) -> bool
+fn says_module(source: &[u8], pieces: &[KeptToken], opening: usize) -> bool
     ensures { result ≡ spec.says_module source.now pieces.now opening }
 {
     is(text_after(source, pieces, opening, 5), "mod")
@@ -89,7 +89,7 @@ fn stands_after(index: usize, other: usize, ahead: usize) -> bool
 /// `version = 2, mod m, T, ".."`. With other arguments it is nowhere.
 fn macro_position(
     source: &[u8],
-    pieces: &[PlacedToken],
+    pieces: &[KeptToken],
     opening: usize,
     index: usize,
 ) -> VersionPosition
@@ -109,7 +109,7 @@ fn macro_position(
 }
 
 /// Where the version of a call's description is given: `parse_borrowed::<2>(`, or nowhere.
-fn call_position(source: &[u8], pieces: &[PlacedToken], opening: usize) -> VersionPosition
+fn call_position(source: &[u8], pieces: &[KeptToken], opening: usize) -> VersionPosition
     ensures { result ≡ spec.call_position source.now pieces.now opening }
 {
     if is(text_before(source, pieces, opening, 1), ">") {
@@ -119,32 +119,39 @@ fn call_position(source: &[u8], pieces: &[PlacedToken], opening: usize) -> Versi
     }
 }
 
+/// The language of the argument with a number; `None` for the others.
+fn dialect_at(argument: usize, number: usize, dialect: FormatLanguage) -> Option<FormatLanguage>
+    ensures { result ≡ spec.dialect_at argument number dialect }
+{
+    if argument == number {
+        Some(dialect)
+    } else {
+        None
+    }
+}
+
 /// The language of an argument that is a description.
 fn dialect_by(
     call: Call,
-    argument: Argument,
+    argument: usize,
     version: Option<FormatLanguage>,
 ) -> Option<FormatLanguage>
     ensures { result ≡ spec.dialect_by call argument version }
 {
-    match (call, argument) {
-        (Call::Macro, _) => version,
-        (Call::First(dialect), Argument::First) => Some(dialect),
-        (Call::Owned(dialect), Argument::First) => Some(dialect),
-        (Call::Second(dialect), Argument::Second) => Some(dialect),
-        (Call::Format, Argument::First) => Some(FormatLanguage::Chrono),
-        (Call::First(_), Argument::Second | Argument::Later)
-        | (Call::Owned(_), Argument::Second | Argument::Later)
-        | (Call::Second(_), Argument::First | Argument::Later)
-        | (Call::Format, Argument::Second | Argument::Later)
-        | (Call::Other, _) => None,
+    match call {
+        Call::Macro => version,
+        Call::First(dialect) | Call::Owned(dialect) => dialect_at(argument, 0, dialect),
+        Call::Second(dialect) => dialect_at(argument, 1, dialect),
+        Call::Format => dialect_at(argument, 0, FormatLanguage::Chrono),
+        Call::Own(dialect, number) => dialect_at(argument, number, dialect),
+        Call::Other => None,
     }
 }
 
 /// The language of a literal, by the bracket that it is in; `None` if it isn't known to be a description.
 fn dialect_in(
     source: &[u8],
-    pieces: &[PlacedToken],
+    pieces: &[KeptToken],
     index: usize,
     frame: OpenBracket,
 ) -> Option<FormatLanguage>
@@ -185,7 +192,7 @@ pub struct Known {
 
 fn version_position(
     source: &[u8],
-    pieces: &[PlacedToken],
+    pieces: &[KeptToken],
     index: usize,
     frame: OpenBracket,
 ) -> VersionPosition
@@ -194,6 +201,7 @@ fn version_position(
     match frame.call {
         Call::Macro => macro_position(source, pieces, frame.opened, index),
         Call::First(_) | Call::Owned(_) => call_position(source, pieces, frame.opened),
+        Call::Own(_, _) => VersionPosition::Call,
         Call::Second(_) | Call::Format | Call::Other => VersionPosition::Elsewhere,
     }
 }
@@ -203,7 +211,12 @@ fn wants_percent(call: Call) -> bool
 {
     match call {
         Call::Format => true,
-        Call::Macro | Call::First(_) | Call::Owned(_) | Call::Second(_) | Call::Other => false,
+        Call::Macro
+        | Call::First(_)
+        | Call::Owned(_)
+        | Call::Second(_)
+        | Call::Own(_, _)
+        | Call::Other => false,
     }
 }
 
@@ -212,14 +225,15 @@ fn items_in(call: Call) -> Items
 {
     match call {
         Call::Macro | Call::Owned(_) => Items::Taken,
-        Call::First(_) | Call::Second(_) | Call::Format | Call::Other => Items::Refused,
+        Call::First(_) | Call::Second(_) | Call::Format | Call::Own(_, _) | Call::Other =>
+            Items::Refused,
     }
 }
 
 /// What the bracket that a literal is in says about it; `None` if it isn't known to be a description.
 pub fn reported_in(
     source: &[u8],
-    pieces: &[PlacedToken],
+    pieces: &[KeptToken],
     index: usize,
     frame: Option<OpenBracket>,
 ) -> Option<Known>
@@ -242,7 +256,7 @@ pub fn reported_in(
 
 /// What a call says about the value of an argument, however that is written. Only the call can say the
 /// version.
-pub fn known_by_call(call: Call, argument: Argument) -> Option<Known>
+pub fn known_by_call(call: Call, argument: usize) -> Option<Known>
     ensures { result ≡ spec.known_by_call call argument }
 {
     match dialect_by(call, argument, None) {

@@ -13,7 +13,7 @@ ghost use Rattle.timefd_lint_scan.specs.Words.{position_at, text_at, tokens_afte
 use crate::alias::block_end;
 use crate::blocks::{begins_of, ends_of};
 use crate::fingerprint::fingerprint;
-use crate::piece::PlacedToken;
+use crate::kept::KeptToken;
 use crate::repeated::{Declaring, declares_at, repeated_names};
 use crate::word::{text_at, tokens_after};
 use std::alloc::{AllocError, Global};
@@ -27,16 +27,16 @@ pub struct TokenLayout {
     /// The fingerprints of names that more than one token may declare.
     variables: HashSet<u64>,
     /// For each token a position up to which the block that it is in isn't closed.
-    ends: Vec<usize>,
+    ends: Vec<u32>,
     /// For each token a position after which no bracket opens that is still open at the token.
-    begins: Vec<usize>,
+    begins: Vec<u32>,
 }
 
 /// What is noted about these tokens. An `Err` says that memory ran out.
 pub fn layout_of(
     alloc: Global,
     source: &[u8],
-    pieces: &[PlacedToken],
+    pieces: &[KeptToken],
 ) -> Result<TokenLayout, AllocError>
     ensures { IfOk result (IsLayout source.now pieces.now) }
 {
@@ -62,7 +62,7 @@ fn is_among(names: &HashSet<u64>, name: &[u8]) -> bool
 /// Whether the item that a token declares is the only one with its name; `false` if that isn't certain.
 pub fn has_one_item(
     source: &[u8],
-    pieces: &[PlacedToken],
+    pieces: &[KeptToken],
     layout: &TokenLayout,
     declared: usize,
 ) -> bool
@@ -78,7 +78,7 @@ pub fn has_one_item(
 /// Whether the name that a token declares can't be declared again after it; `false` if that isn't certain.
 pub fn has_one_variable(
     source: &[u8],
-    pieces: &[PlacedToken],
+    pieces: &[KeptToken],
     layout: &TokenLayout,
     declared: usize,
 ) -> bool
@@ -95,7 +95,7 @@ pub fn has_one_variable(
 /// Whether the block that a token is in isn't closed before a position; `false` if that isn't certain.
 pub fn is_open_at(
     source: &[u8],
-    pieces: &[PlacedToken],
+    pieces: &[KeptToken],
     layout: &TokenLayout,
     index: usize,
     position: usize,
@@ -103,14 +103,14 @@ pub fn is_open_at(
     requires { IsLayout source.now pieces.now layout.now }
     ensures { result ≡ true → stays_open source.now position 0 (drop index pieces.now) ≡ true }
 {
-    index < layout.ends.len() && position <= layout.ends[index]
+    index < layout.ends.len() && position <= layout.ends[index] as usize
 }
 
 /// Whether the block isn't closed before a position that the token after this one is in; `false` if that isn't
 /// certain.
 pub fn is_open_after(
     source: &[u8],
-    pieces: &[PlacedToken],
+    pieces: &[KeptToken],
     layout: &TokenLayout,
     index: usize,
     position: usize,
@@ -122,12 +122,12 @@ pub fn is_open_after(
 }
 
 /// Where the block ends that the token after this one begins in.
-pub fn end_after(source: &[u8], pieces: &[PlacedToken], layout: &TokenLayout, index: usize) -> usize
+pub fn end_after(source: &[u8], pieces: &[KeptToken], layout: &TokenLayout, index: usize) -> usize
     requires { IsLayout source.now pieces.now layout.now }
     ensures { result ≡ block_end source.now 0 (tokens_after pieces.now index) }
 {
     if index < layout.ends.len() && index + 1 < layout.ends.len() {
-        return layout.ends[index + 1];
+        return layout.ends[index + 1] as usize;
     }
     block_end(source, tokens_after(pieces, index))
 }
@@ -135,7 +135,7 @@ pub fn end_after(source: &[u8], pieces: &[PlacedToken], layout: &TokenLayout, in
 /// Whether all brackets that open after a position are closed again at a token; `false` if that isn't certain.
 pub fn is_outside_at(
     source: &[u8],
-    pieces: &[PlacedToken],
+    pieces: &[KeptToken],
     layout: &TokenLayout,
     index: usize,
     from: usize,
@@ -143,5 +143,5 @@ pub fn is_outside_at(
     requires { IsLayout source.now pieces.now layout.now }
     ensures { result ≡ true → is_outside source.now from (position_at pieces.now index) 0 pieces.now ≡ true }
 {
-    index < layout.begins.len() && layout.begins[index] < from
+    index < layout.begins.len() && (layout.begins[index] as usize) < from
 }

@@ -17,11 +17,12 @@ use crate::following::following_of;
 use crate::furthest::furthest_of;
 use crate::gathered::{Gathered, tokens_of};
 use crate::import::aliases_of;
+use crate::kept::KeptToken;
 use crate::layout::layout_of;
 use crate::marks::{LanguageMark, marks_of, unknown_marks};
 use crate::named_calls::named_calls;
 use crate::names::may_describe;
-use crate::piece::PlacedToken;
+use crate::own_call::OwnCall;
 use crate::runs::runs_of;
 use crate::uses::{Use, Uses};
 use crate::using::uses_of;
@@ -49,12 +50,12 @@ struct SeenTokens {
 }
 
 /// Whether a word is among these tokens.
-fn has_word(source: &[u8], pieces: &[PlacedToken], word: &str) -> bool
+fn has_word(source: &[u8], pieces: &[KeptToken], word: &str) -> bool
     ensures { result ≡ spec.has_word source.now word.now pieces.now }
 {
     let mut rest = pieces;
     'tokens: while let [piece, after @ ..] = rest {
-        if is(text_of(source, *piece), word) {
+        if is(piece.text(source), word) {
             return true;
         }
         rest = after;
@@ -138,7 +139,7 @@ fn calls_without(
 fn unread_calls(
     alloc: Global,
     source: &[u8],
-    pieces: &[PlacedToken],
+    pieces: &[KeptToken],
     uses: Uses<'_>,
     descriptions: &[SourceDescription],
     has_chrono: bool,
@@ -153,24 +154,26 @@ fn unread_calls(
     calls_without(alloc, uses.list, &named, has_chrono)
 }
 
-/// What is seen among these tokens, with these comments that name a language.
+/// What is seen among these tokens, with these calls of the project, and these comments that name a language.
 fn seen_in(
     alloc: Global,
     source: &str,
-    pieces: &[PlacedToken],
+    own: &[OwnCall],
+    pieces: &[KeptToken],
     marks: &[LanguageMark],
 ) -> Result<SeenTokens, AllocError>
     ensures described { IfOk result (λ seen. AreDescribed source.now 0
-        (candidates_in source.now pieces.now marks.now) seen.descriptions.items) }
-    ensures calls { IfOk result (λ seen. AreUnreadCalls source.now pieces.now seen.descriptions.items seen.calls.items) }
+        (candidates_in source.now own.now pieces.now marks.now) seen.descriptions.items) }
+    ensures calls { IfOk result (λ seen. AreUnreadCalls source.now own.now pieces.now seen.descriptions.items seen.calls.items) }
 {
     let bytes = source.as_bytes();
     let layout = layout_of(alloc, bytes, pieces)?;
-    let list = aliases_of(alloc, bytes, pieces, &layout)?;
+    let list = aliases_of(alloc, bytes, own, pieces, &layout)?;
     let notes = notes_of(alloc, bytes, &list)?;
     let aliases = Aliases {
         list: &list,
         notes: &notes,
+        own,
     };
     let uses = uses_of(alloc, bytes, pieces, aliases, &layout)?;
     let furthest = furthest_of(alloc, &uses)?;
@@ -192,11 +195,11 @@ fn seen_in(
     })
 }
 
-/// Looks for descriptions in a source, without examples in its comments. An `Err` says that memory ran out.
-pub fn look_of(alloc: Global, source: &str) -> Result<Look, AllocError>
-    ensures { IfOk result (IsLook source.now) }
+/// Looks for descriptions in a source, with these calls of its project, but not in examples in its comments. An `Err` says that memory ran out.
+pub fn look_of(alloc: Global, source: &str, own: &[OwnCall]) -> Result<Look, AllocError>
+    ensures { IfOk result (IsLook source.now own.now) }
 {
-    if !may_describe(source.as_bytes()) {
+    if !may_describe(source.as_bytes(), own) {
         return Ok(Look {
             descriptions: Vec::new(alloc),
             calls: Vec::new(alloc),
@@ -209,7 +212,7 @@ pub fn look_of(alloc: Global, source: &str) -> Result<Look, AllocError>
     let SeenTokens {
         descriptions,
         calls,
-    } = seen_in(alloc, source, &pieces, &marks)?;
+    } = seen_in(alloc, source, own, &pieces, &marks)?;
     Ok(Look {
         descriptions,
         calls,

@@ -12,9 +12,9 @@ ghost use Rattle.timefd_lint_scan.specs.declared.uses.Use.{Use};
 use crate::dialect::is;
 use crate::flow::names_value;
 use crate::following::{Following, last_of, next_at};
+use crate::kept::KeptToken;
 use crate::known::Known;
 use crate::look::note;
-use crate::piece::PlacedToken;
 use crate::runs::end_at;
 use crate::uses::{Use, Uses, first_use, is_meant, is_past, is_use_of};
 use crate::word::{text_after, text_at, text_before, text_of};
@@ -25,7 +25,7 @@ use std::collections::HashSet;
 const FIRST_STEP: usize = 256;
 
 /// Whether a token declares a name whose text is looked for: an item, a variable, or the variable of a loop.
-fn is_declaration(source: &[u8], pieces: &[PlacedToken], index: usize) -> bool
+fn is_declaration(source: &[u8], pieces: &[KeptToken], index: usize) -> bool
     ensures { result ≡ spec.is_declaration source.now pieces.now index }
 {
     let before = text_before(source, pieces, index, 1);
@@ -56,7 +56,7 @@ fn is_among(looked: &HashSet<usize>, call: Option<usize>) -> bool
 /// An index from which on no use is of the name that a token declares.
 fn end_of(
     source: &[u8],
-    pieces: &[PlacedToken],
+    pieces: &[KeptToken],
     uses: Uses<'_>,
     following: &Following,
     declared: usize,
@@ -75,7 +75,7 @@ fn end_of(
 /// The index of the next use in the list that may be of the name that a token declares.
 fn next_use(
     source: &[u8],
-    pieces: &[PlacedToken],
+    pieces: &[KeptToken],
     uses: Uses<'_>,
     following: &Following,
     declared: usize,
@@ -111,7 +111,7 @@ struct Reach {
 /// Whether a use is of the name that a token declares, which is surely meant up to a position.
 fn is_used_within(
     source: &[u8],
-    pieces: &[PlacedToken],
+    pieces: &[KeptToken],
     uses: Uses<'_>,
     declared: usize,
     used: Use,
@@ -139,7 +139,7 @@ fn next_step(reach: Reach, is_sure: bool) -> usize {
 /// Up to where a name is surely meant after a use of it. If that use isn't far enough for a new test, it stays as it was.
 fn farther(
     source: &[u8],
-    pieces: &[PlacedToken],
+    pieces: &[KeptToken],
     uses: Uses<'_>,
     declared: usize,
     position: usize,
@@ -180,7 +180,7 @@ fn call_of(used: Use, known: Known, is_used: bool) -> Option<usize>
 fn note_calls(
     named: &mut HashSet<usize>,
     source: &[u8],
-    pieces: &[PlacedToken],
+    pieces: &[KeptToken],
     uses: Uses<'_>,
     following: &Following,
     declared: usize,
@@ -213,7 +213,7 @@ fn note_calls(
 fn note_named(
     named: &mut HashSet<usize>,
     source: &[u8],
-    pieces: &[PlacedToken],
+    pieces: &[KeptToken],
     uses: Uses<'_>,
     following: &Following,
     looked: &HashSet<usize>,
@@ -245,7 +245,7 @@ fn note_named(
 pub fn named_calls(
     alloc: Global,
     source: &[u8],
-    pieces: &[PlacedToken],
+    pieces: &[KeptToken],
     uses: Uses<'_>,
     following: &Following,
     looked: &HashSet<usize>,

@@ -1,8 +1,9 @@
 //! Whether a source can have descriptions at all: some known word is near every description.
 
 ghost use Rattle.std.specs.Prelude.{◌≡◌, ◌⊎◌, codes, false};
-ghost use Rattle.timefd_lint_scan.specs.Names.{HasNoCallOfChrono, HasNoCallOfJiff, HasNoMacro, HasNoName, HasNoParser, HasNoPercent, HasNoPercentEscape, HasNoReaderOfChrono, Lacks};
+ghost use Rattle.timefd_lint_scan.specs.Names.{HasNoCallOfChrono, HasNoCallOfJiff, HasNoMacro, HasNoName, HasNoOwn, HasNoParser, HasNoPercent, HasNoPercentEscape, HasNoReaderOfChrono, Lacks};
 
+use crate::own_call::{OwnCall, word_of};
 use memchr::{memchr, memmem};
 
 fn has(source: &[u8], word: &str) -> bool
@@ -114,13 +115,27 @@ fn has_call_of_jiff(source: &[u8]) -> bool
     has(source, "BrokenDownTime")
 }
 
-/// Whether a source has one of the names without which none of its literals is a description. Most sources
-/// have none, and needn't be cut into tokens.
-pub fn may_describe(source: &[u8]) -> bool
-    ensures { result ≡ false → HasNoName source.now }
+fn has_own(source: &[u8], calls: &[OwnCall]) -> bool
+    ensures { result ≡ false → HasNoOwn source.now calls.now }
+{
+    let mut rest = calls;
+    'calls: while let [call, after @ ..] = rest {
+        if has(source, word_of(call)) {
+            return true;
+        }
+        rest = after;
+    }
+    false
+}
+
+/// Whether a source has one of the names without which none of its literals is a description: those of known calls, or of these
+/// calls of its project. Most sources have none, and needn't be cut into tokens.
+pub fn may_describe(source: &[u8], own: &[OwnCall]) -> bool
+    ensures { result ≡ false → HasNoName source.now own.now }
 {
     has_macro_or_comment(source)
         || has_parser(source)
         || has_call_of_chrono(source)
         || has_call_of_jiff(source)
+        || has_own(source, own)
 }

@@ -6,7 +6,7 @@ ghost use Rattle.timefd_lint_scan.specs.Layouts.{AreNoted, AreRepeated};
 ghost use Rattle.timefd_lint_scan.specs.Layouts as spec;
 
 use crate::fingerprint::fingerprint;
-use crate::piece::PlacedToken;
+use crate::kept::KeptToken;
 use crate::shadow::{is_declaring, may_declare};
 use crate::word::{text_at, text_before, tokens_after};
 use std::alloc::{AllocError, Global};
@@ -21,7 +21,7 @@ pub enum Declaring {
     Maybe,
 }
 
-fn declares(source: &[u8], declaring: Declaring, before: &[u8], after: &[PlacedToken]) -> bool
+fn declares(source: &[u8], declaring: Declaring, before: &[u8], after: &[KeptToken]) -> bool
     ensures { result ≡ spec.declares source.now declaring before.now after.now }
 {
     match declaring {
@@ -31,12 +31,7 @@ fn declares(source: &[u8], declaring: Declaring, before: &[u8], after: &[PlacedT
 }
 
 /// Whether a token declares its text as a name.
-pub fn declares_at(
-    source: &[u8],
-    declaring: Declaring,
-    pieces: &[PlacedToken],
-    index: usize,
-) -> bool
+pub fn declares_at(source: &[u8], declaring: Declaring, pieces: &[KeptToken], index: usize) -> bool
     ensures { result ≡ spec.declares_at source.now declaring pieces.now index }
 {
     let before = text_before(source, pieces, index, 1);
@@ -61,7 +56,7 @@ fn note_at(
     seen: &mut HashSet<u64>,
     repeated: &mut HashSet<u64>,
     source: &[u8],
-    pieces: &[PlacedToken],
+    pieces: &[KeptToken],
     declaring: Declaring,
     index: usize,
 ) -> Result<(), AllocError>
@@ -81,7 +76,7 @@ fn note_at(
 pub fn repeated_names(
     alloc: Global,
     source: &[u8],
-    pieces: &[PlacedToken],
+    pieces: &[KeptToken],
     declaring: Declaring,
 ) -> Result<HashSet<u64>, AllocError>
     ensures { IfOk result (λ repeated.

@@ -3,20 +3,20 @@
 ghost use Rattle.std.specs.Prelude.{◌≡◌};
 ghost use Rattle.timefd_lint_scan.specs.Scopes as spec;
 
-use crate::piece::PlacedToken;
+use crate::kept::KeptToken;
 use crate::word::{is_closing, is_opening, position_at, text_of, tokens_from};
 
 /// Whether the block that these tokens begin in is still open at a later position.
-pub fn stays_open(source: &[u8], pieces: &[PlacedToken], position: usize) -> bool
+pub fn stays_open(source: &[u8], pieces: &[KeptToken], position: usize) -> bool
     ensures { result ≡ spec.stays_open source.now position 0 pieces.now }
 {
     let mut depth: usize = 0;
     let mut rest = pieces;
     'tokens: while let [piece, after @ ..] = rest {
-        if position <= piece.start {
+        if position <= piece.start() {
             return true;
         }
-        let text = text_of(source, *piece);
+        let text = piece.text(source);
         if is_opening(text) {
             depth += 1;
         } else if is_closing(text) {
@@ -31,17 +31,17 @@ pub fn stays_open(source: &[u8], pieces: &[PlacedToken], position: usize) -> boo
 }
 
 /// Whether all brackets that open after one position are closed again at another.
-fn is_outside(source: &[u8], pieces: &[PlacedToken], from: usize, position: usize) -> bool
+fn is_outside(source: &[u8], pieces: &[KeptToken], from: usize, position: usize) -> bool
     ensures { result ≡ spec.is_outside source.now from position 0 pieces.now }
 {
     let mut depth: usize = 0;
     let mut rest = pieces;
     'tokens: while let [piece, after @ ..] = rest {
-        if position <= piece.start {
+        if position <= piece.start() {
             return depth == 0;
         }
-        let text = text_of(source, *piece);
-        if from <= piece.start && is_opening(text) {
+        let text = piece.text(source);
+        if from <= piece.start() && is_opening(text) {
             depth += 1;
         } else if is_closing(text) {
             depth = depth.saturating_sub(1);
@@ -52,7 +52,7 @@ fn is_outside(source: &[u8], pieces: &[PlacedToken], from: usize, position: usiz
 }
 
 /// Whether the block that a token is in also contains a position.
-pub fn reaches(source: &[u8], pieces: &[PlacedToken], declared: usize, position: usize) -> bool
+pub fn reaches(source: &[u8], pieces: &[KeptToken], declared: usize, position: usize) -> bool
     ensures { result ≡ spec.reaches source.now pieces.now declared position }
 {
     let at = position_at(pieces, declared);

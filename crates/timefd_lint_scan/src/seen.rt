@@ -3,23 +3,23 @@
 ghost use Rattle.std.specs.Prelude.{◌≡◌};
 ghost use Rattle.timefd_lint_scan.specs.Uses as spec;
 
-use crate::piece::PlacedToken;
+use crate::kept::KeptToken;
 use crate::shadow::is_declared;
 use crate::word::{is_closing, is_opening, text_of};
 
 // Whether the block that these tokens begin in is still open at a later position, and the name isn't declared again before it. What ends
 // first decides.
-fn stays_seen(source: &[u8], name: &[u8], pieces: &[PlacedToken], position: usize) -> bool
+fn stays_seen(source: &[u8], name: &[u8], pieces: &[KeptToken], position: usize) -> bool
     ensures { result ≡ spec.stays_seen source.now name.now position 0 name.now pieces.now }
 {
     let mut depth: usize = 0;
     let mut last = name;
     let mut rest = pieces;
     'tokens: while let [piece, after @ ..] = rest {
-        if position <= piece.start {
+        if position <= piece.start() {
             return true;
         }
-        let text = text_of(source, *piece);
+        let text = piece.text(source);
         if text == name && is_declared(source, last, after, position) {
             return false;
         }
@@ -39,11 +39,11 @@ fn stays_seen(source: &[u8], name: &[u8], pieces: &[PlacedToken], position: usiz
 
 /// Whether a position is after the first of these tokens, in the block that they begin in, and the name
 /// isn't declared again before it.
-pub fn is_seen(source: &[u8], name: &[u8], pieces: &[PlacedToken], position: usize) -> bool
+pub fn is_seen(source: &[u8], name: &[u8], pieces: &[KeptToken], position: usize) -> bool
     ensures { result ≡ spec.is_seen source.now name.now pieces.now position }
 {
     match pieces {
-        [first, ..] => { first.start <= position && stays_seen(source, name, pieces, position) }
+        [first, ..] => { first.start() <= position && stays_seen(source, name, pieces, position) }
         [] => false,
     }
 }

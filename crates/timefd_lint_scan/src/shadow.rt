@@ -5,7 +5,7 @@ ghost use Rattle.timefd_lint_scan.specs.Declarations as spec;
 ghost use Rattle.timefd_lint_scan.specs.Layouts as layouts;
 
 use crate::dialect::is;
-use crate::piece::PlacedToken;
+use crate::kept::KeptToken;
 use crate::token::Token;
 use crate::word::{is_closing, is_word_token, text_at, text_of};
 
@@ -32,7 +32,7 @@ fn goes_on(token: Token, text: &[u8]) -> bool
 
 /// Whether a pattern ends before this token whose names are valid immediately: the pattern of a closure, a
 /// loop or an arm.
-fn ends_pattern(source: &[u8], text: &[u8], after: &[PlacedToken]) -> bool
+fn ends_pattern(source: &[u8], text: &[u8], after: &[KeptToken]) -> bool
     ensures { result ≡ spec.ends_pattern source.now text.now after.now }
 {
     is(text, "|")
@@ -42,7 +42,7 @@ fn ends_pattern(source: &[u8], text: &[u8], after: &[PlacedToken]) -> bool
 }
 
 /// Whether a pattern ends before this token that a value is assigned to.
-fn ends_assigned(source: &[u8], text: &[u8], after: &[PlacedToken]) -> bool
+fn ends_assigned(source: &[u8], text: &[u8], after: &[KeptToken]) -> bool
     ensures { result ≡ spec.ends_assigned source.now text.now after.now }
 {
     let next = text_at(source, after, 0);
@@ -50,7 +50,7 @@ fn ends_assigned(source: &[u8], text: &[u8], after: &[PlacedToken]) -> bool
 }
 
 /// Whether a name before these tokens may be in a pattern whose names are valid immediately.
-fn is_in_pattern(source: &[u8], pieces: &[PlacedToken]) -> bool
+fn is_in_pattern(source: &[u8], pieces: &[KeptToken]) -> bool
     ensures { result ≡ spec.is_in_pattern source.now spec.most_tokens pieces.now }
 {
     let mut left = MOST_TOKENS;
@@ -59,11 +59,11 @@ fn is_in_pattern(source: &[u8], pieces: &[PlacedToken]) -> bool
         if left == 0 {
             return true;
         }
-        let text = text_of(source, *piece);
+        let text = piece.text(source);
         if ends_pattern(source, text, after) {
             return true;
         }
-        if !goes_on(piece.token, text) {
+        if !goes_on(piece.token(), text) {
             return false;
         }
         left -= 1;
@@ -73,7 +73,7 @@ fn is_in_pattern(source: &[u8], pieces: &[PlacedToken]) -> bool
 }
 
 /// Whether a name before these tokens is in a pattern that a value is assigned to.
-fn is_assigned(source: &[u8], pieces: &[PlacedToken]) -> bool
+fn is_assigned(source: &[u8], pieces: &[KeptToken]) -> bool
     ensures { result ≡ spec.is_assigned source.now spec.most_tokens pieces.now }
 {
     let mut left = MOST_TOKENS;
@@ -82,11 +82,11 @@ fn is_assigned(source: &[u8], pieces: &[PlacedToken]) -> bool
         if left == 0 {
             return false;
         }
-        let text = text_of(source, *piece);
+        let text = piece.text(source);
         if ends_assigned(source, text, after) {
             return true;
         }
-        if !goes_on(piece.token, text) {
+        if !goes_on(piece.token(), text) {
             return false;
         }
         left -= 1;
@@ -97,15 +97,15 @@ fn is_assigned(source: &[u8], pieces: &[PlacedToken]) -> bool
 
 /// Whether a statement ends or a block begins among these tokens before a position. From there on a name is
 /// valid that a value was assigned to before these tokens.
-fn has_begun(source: &[u8], pieces: &[PlacedToken], position: usize) -> bool
+fn has_begun(source: &[u8], pieces: &[KeptToken], position: usize) -> bool
     ensures { result ≡ spec.has_begun source.now position pieces.now }
 {
     let mut rest = pieces;
     'tokens: while let [piece, after @ ..] = rest {
-        if position <= piece.start {
+        if position <= piece.start() {
             return false;
         }
-        let text = text_of(source, *piece);
+        let text = piece.text(source);
         if is(text, ";") || is(text, "{") {
             return true;
         }
@@ -115,7 +115,7 @@ fn has_begun(source: &[u8], pieces: &[PlacedToken], position: usize) -> bool
 }
 
 /// Whether a type follows a name: `name: T`.
-fn has_type(source: &[u8], after: &[PlacedToken]) -> bool
+fn has_type(source: &[u8], after: &[KeptToken]) -> bool
     ensures { result ≡ spec.has_type source.now after.now }
 {
     is(text_at(source, after, 0), ":") && !is(text_at(source, after, 1), ":")
@@ -123,7 +123,7 @@ fn has_type(source: &[u8], after: &[PlacedToken]) -> bool
 
 /// Whether a name between `before` and `after` may be declared there, so that it is valid at a later
 /// position.
-pub fn is_declared(source: &[u8], before: &[u8], after: &[PlacedToken], position: usize) -> bool
+pub fn is_declared(source: &[u8], before: &[u8], after: &[KeptToken], position: usize) -> bool
     ensures { result ≡ spec.is_declared source.now position before.now after.now }
 {
     if is(before, "let") || is_assigned(source, after) {
@@ -138,7 +138,7 @@ pub fn is_declared(source: &[u8], before: &[u8], after: &[PlacedToken], position
 }
 
 /// Whether a name between `before` and `after` may be declared there, so that it is valid at some later position.
-pub fn may_declare(source: &[u8], before: &[u8], after: &[PlacedToken]) -> bool
+pub fn may_declare(source: &[u8], before: &[u8], after: &[KeptToken]) -> bool
     ensures { result ≡ layouts.may_declare source.now before.now after.now }
 {
     is_declaring(before)
@@ -155,7 +155,7 @@ pub fn is_named(
     source: &[u8],
     name: &[u8],
     before: &[u8],
-    pieces: &[PlacedToken],
+    pieces: &[KeptToken],
     position: usize,
 ) -> bool
     ensures { result ≡ spec.is_named source.now name.now position before.now pieces.now }
@@ -163,10 +163,10 @@ pub fn is_named(
     let mut last = before;
     let mut rest = pieces;
     'tokens: while let [piece, after @ ..] = rest {
-        if position <= piece.start {
+        if position <= piece.start() {
             return false;
         }
-        let text = text_of(source, *piece);
+        let text = piece.text(source);
         if text == name && is_declaring(last) {
             return true;
         }

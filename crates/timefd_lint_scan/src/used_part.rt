@@ -5,7 +5,7 @@ ghost use Rattle.std.specs.Prelude.{◌≡◌};
 ghost use Rattle.timefd_lint_scan.specs.UsedParts as spec;
 
 use crate::dialect::is;
-use crate::piece::PlacedToken;
+use crate::kept::KeptToken;
 use crate::token::Token;
 use crate::value::{hands_on, is_begun};
 use crate::word::{is_closing, is_opening, text_after, text_at, text_of, tokens_after};
@@ -45,16 +45,16 @@ fn is_literal(token: Token) -> bool
 
 /// Whether a value that these tokens go on with, up to a comma or to the bracket after it, has no literal, and is
 /// neither a pattern nor a statement.
-fn is_bare(source: &[u8], pieces: &[PlacedToken]) -> bool
+fn is_bare(source: &[u8], pieces: &[KeptToken]) -> bool
     ensures { result ≡ spec.is_bare source.now 0 pieces.now }
 {
     let mut depth: usize = 0;
     let mut rest = pieces;
     'tokens: while let [piece, after @ ..] = rest {
-        if is_literal(piece.token) {
+        if is_literal(piece.token()) {
             return false;
         }
-        let text = text_of(source, *piece);
+        let text = piece.text(source);
         if is_opening(text) {
             depth += 1;
         } else if is_closing(text) {
@@ -73,7 +73,7 @@ fn is_bare(source: &[u8], pieces: &[PlacedToken]) -> bool
 }
 
 /// Whether `self` or `Self` only leads to a name that is used itself: `self.f()`, `Self::F`, `Self::F.as_str()`.
-fn leads_on(source: &[u8], pieces: &[PlacedToken], index: usize) -> bool
+fn leads_on(source: &[u8], pieces: &[KeptToken], index: usize) -> bool
     ensures { result ≡ spec.leads_on source.now pieces.now index }
 {
     let name = text_at(source, pieces, index);
@@ -89,7 +89,7 @@ fn leads_on(source: &[u8], pieces: &[PlacedToken], index: usize) -> bool
 }
 
 /// Whether a value begins with a token, and nothing in it is looked at.
-pub fn is_part(source: &[u8], pieces: &[PlacedToken], index: usize) -> bool
+pub fn is_part(source: &[u8], pieces: &[KeptToken], index: usize) -> bool
     ensures { result ≡ spec.is_part source.now pieces.now index }
 {
     let after = text_after(source, pieces, index, 1);

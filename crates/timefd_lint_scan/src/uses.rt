@@ -12,6 +12,7 @@ ghost use Rattle.timefd_lint_scan.specs.Words.{text_at, tokens_after};
 use crate::alias::after_first;
 use crate::dialect::is;
 use crate::firsts::first_of;
+use crate::kept::KeptToken;
 use crate::known::Known;
 use crate::layout::{
     TokenLayout, has_one_item, has_one_variable, is_open_after, is_open_at, is_outside_at,
@@ -48,7 +49,7 @@ pub struct Use {
 }
 
 /// Whether no other item or variable of a source has the name that this token declares.
-fn is_only(source: &[u8], pieces: &[PlacedToken], layout: &TokenLayout, declared: usize) -> bool
+fn is_only(source: &[u8], pieces: &[KeptToken], layout: &TokenLayout, declared: usize) -> bool
     requires { IsLayout source.now pieces.now layout.now }
     ensures { result ≡ spec.is_only source.now pieces.now declared }
 {
@@ -65,7 +66,7 @@ fn is_only(source: &[u8], pieces: &[PlacedToken], layout: &TokenLayout, declared
 /// block, with `for` in the loop's block, and otherwise in the block of its item.
 pub fn is_meant(
     source: &[u8],
-    pieces: &[PlacedToken],
+    pieces: &[KeptToken],
     layout: &TokenLayout,
     declared: usize,
     position: usize,
@@ -101,7 +102,7 @@ fn is_alike(way: Way, is_function: bool) -> bool
 /// Whether this is a use of what a token declares.
 pub fn is_use_of(
     source: &[u8],
-    pieces: &[PlacedToken],
+    pieces: &[KeptToken],
     layout: &TokenLayout,
     declared: usize,
     used: Use,
@@ -133,7 +134,7 @@ pub struct Uses<'a> {
 // Whether the block that a token is in also contains a position.
 fn block_contains(
     source: &[u8],
-    pieces: &[PlacedToken],
+    pieces: &[KeptToken],
     layout: &TokenLayout,
     declared: usize,
     position: usize,
@@ -154,7 +155,7 @@ fn block_contains(
 // Whether the variable that a token declares with `let` is what its name means at a position.
 fn is_variable(
     source: &[u8],
-    pieces: &[PlacedToken],
+    pieces: &[KeptToken],
     layout: &TokenLayout,
     declared: usize,
     position: usize,
@@ -173,7 +174,7 @@ fn is_variable(
 // isn't certain.
 fn is_surely_variable(
     source: &[u8],
-    pieces: &[PlacedToken],
+    pieces: &[KeptToken],
     layout: &TokenLayout,
     declared: usize,
     position: usize,
@@ -188,17 +189,17 @@ fn is_surely_variable(
 }
 
 // The start of the first of these tokens.
-fn first_start(pieces: &[PlacedToken]) -> usize
+fn first_start(pieces: &[KeptToken]) -> usize
     ensures { result ≡ spec.first_start pieces.now }
 {
     match pieces {
-        [first, ..] => first.start,
+        [first, ..] => first.start(),
         [] => 0,
     }
 }
 
 // A position before which no use is of the name that a token declares with `let` or `for`.
-fn first_seen(source: &[u8], pieces: &[PlacedToken], declared: usize) -> usize
+fn first_seen(source: &[u8], pieces: &[KeptToken], declared: usize) -> usize
     ensures { result ≡ spec.first_seen source.now pieces.now declared }
 {
     let before = text_before(source, pieces, declared, 1);
@@ -232,9 +233,9 @@ fn count_before(uses: Uses<'_>, at: usize) -> usize
     low
 }
 
-/// Whether a use has the name that a token declares with `let` or `for`, and is after the declaration. If it isn't of that name, no use at its
-/// position or after it is.
-pub fn is_past(source: &[u8], pieces: &[PlacedToken], declared: usize, used: Use) -> bool
+/// Whether a use has the name that a token declares with `let` or `for`, and is after the declaration. If it isn't of
+/// that name, no use at its position or after it is.
+pub fn is_past(source: &[u8], pieces: &[KeptToken], declared: usize, used: Use) -> bool
     ensures { result ≡ spec.is_past source.now pieces.now declared used }
 {
     let is_function = is(text_before(source, pieces, declared, 1), "fn");
@@ -245,7 +246,7 @@ pub fn is_past(source: &[u8], pieces: &[PlacedToken], declared: usize, used: Use
 }
 
 // Whether a token declares a name with `let` or `for`.
-fn declares_variable(source: &[u8], pieces: &[PlacedToken], declared: usize) -> bool
+fn declares_variable(source: &[u8], pieces: &[KeptToken], declared: usize) -> bool
     ensures { result ≡ spec.declares_variable source.now pieces.now declared }
 {
     let before = text_before(source, pieces, declared, 1);
@@ -255,7 +256,7 @@ fn declares_variable(source: &[u8], pieces: &[PlacedToken], declared: usize) -> 
 // The index of the next use in the list that may be of the name that a token declares, after one that isn't.
 fn next_use(
     source: &[u8],
-    pieces: &[PlacedToken],
+    pieces: &[KeptToken],
     uses: Uses<'_>,
     declared: usize,
     index: usize,
@@ -276,7 +277,7 @@ fn next_use(
 #[tactic(auto, using(crate::proofs::FirstsLemmas::skipped, crate::proofs::RunsLemmas::one_unused, crate::proofs::RunsLemmas::none_left))]
 pub fn first_use(
     source: &[u8],
-    pieces: &[PlacedToken],
+    pieces: &[KeptToken],
     uses: Uses<'_>,
     declared: usize,
 ) -> Option<usize>
@@ -302,7 +303,7 @@ pub fn first_use(
 /// What the first use says about the name that a token declares.
 pub fn known_by_name(
     source: &[u8],
-    pieces: &[PlacedToken],
+    pieces: &[KeptToken],
     uses: Uses<'_>,
     declared: usize,
 ) -> Option<Known>

@@ -14,6 +14,7 @@ use crate::firsts::firsts_of;
 use crate::flow::{outermost, pending_of};
 use crate::frames::{innermost, pass};
 use crate::furthest::furthest_of;
+use crate::kept::KeptToken;
 use crate::known::Known;
 use crate::layout::TokenLayout;
 use crate::piece::PlacedToken;
@@ -26,7 +27,7 @@ use std::alloc::{AllocError, Global};
 use std::collections::HashMap;
 
 /// The index of the token that a path to a name begins with: `Self` in `Self::F`, `self` in `self.f()`.
-fn path_start(source: &[u8], pieces: &[PlacedToken], index: usize) -> Option<usize>
+fn path_start(source: &[u8], pieces: &[KeptToken], index: usize) -> Option<usize>
     ensures { result ≡ spec.path_start source.now pieces.now index }
 {
     let before = text_before(source, pieces, index, 1);
@@ -49,7 +50,7 @@ fn path_start(source: &[u8], pieces: &[PlacedToken], index: usize) -> Option<usi
 }
 
 /// How a name is used as a value, if it is.
-fn way_of(source: &[u8], pieces: &[PlacedToken], index: usize) -> Option<Way>
+fn way_of(source: &[u8], pieces: &[KeptToken], index: usize) -> Option<Way>
     ensures { result ≡ spec.way_of source.now pieces.now index }
 {
     let Some(start) = path_start(source, pieces, index) else {
@@ -67,7 +68,7 @@ fn way_of(source: &[u8], pieces: &[PlacedToken], index: usize) -> Option<Way>
 }
 
 /// How a name is used, as a value or as a part of one.
-fn way_at(source: &[u8], pieces: &[PlacedToken], index: usize) -> Option<Way>
+fn way_at(source: &[u8], pieces: &[KeptToken], index: usize) -> Option<Way>
     ensures { result ≡ spec.way_at source.now pieces.now index }
 {
     match way_of(source, pieces, index) {
@@ -96,7 +97,7 @@ fn use_of(name: PlacedToken, way: Option<Way>, known: Known) -> Option<Use>
 /// The use of the name at a token, with this bracket open.
 fn use_at(
     source: &[u8],
-    pieces: &[PlacedToken],
+    pieces: &[KeptToken],
     index: usize,
     piece: PlacedToken,
     frame: Option<OpenBracket>,
@@ -128,7 +129,7 @@ fn push_any(uses: &mut Vec<Use>, found: Option<Use>) -> Result<(), AllocError>
 // No use.
 fn no_uses<'a>(
     source: &[u8],
-    pieces: &[PlacedToken],
+    pieces: &[KeptToken],
     layout: &'a TokenLayout,
     firsts: &'a HashMap<u64, usize>,
 ) -> Uses<'a>
@@ -149,13 +150,13 @@ fn no_uses<'a>(
 fn in_calls(
     alloc: Global,
     source: &[u8],
-    pieces: &[PlacedToken],
+    pieces: &[KeptToken],
     aliases: Aliases<'_>,
     layout: &TokenLayout,
 ) -> Result<Vec<Use>, AllocError>
     requires layout { IsLayout source.now pieces.now layout.now }
     requires aliases { AreAliases source.now aliases }
-    ensures { IfOk result (λ uses. uses.items ≡ spec.in_calls source.now pieces.now aliases.entry.list.now) }
+    ensures { IfOk result (λ uses. uses.items ≡ spec.in_calls source.now pieces.now aliases.entry.list.now aliases.entry.own.now) }
 {
     let mut frames = Vec::new(alloc);
     frames.push(outermost())?;
@@ -165,16 +166,22 @@ fn in_calls(
     for (index, piece) in pieces.iter().enumerate() {
         pass(&mut frames, source, pieces, aliases, none, index)?;
         let frame = innermost(&frames);
-        push_any(&mut uses, use_at(source, pieces, index, *piece, frame))?;
+        push_any(
+            &mut uses,
+            use_at(source, pieces, index, piece.placed(), frame),
+        )?;
     }
     Ok(uses)
 }
 
-fn piece_after(pieces: &[PlacedToken], index: usize, ahead: usize) -> Option<PlacedToken>
+fn piece_after(pieces: &[KeptToken], index: usize, ahead: usize) -> Option<PlacedToken>
     ensures { result ≡ spec.piece_after pieces.now index ahead }
 {
     match index.checked_add(ahead) {
-        Some(at) => pieces.get(at).copied(),
+        Some(at) => match pieces.get(at) {
+            Some(piece) => Some(piece.placed()),
+            None => None,
+        },
         None => None,
     }
 }
@@ -182,7 +189,7 @@ fn piece_after(pieces: &[PlacedToken], index: usize, ahead: usize) -> Option<Pla
 /// The name that a loop goes over, `ahead` tokens after `in`, if the token `next` after `in` ends it.
 fn looped_over(
     source: &[u8],
-    pieces: &[PlacedToken],
+    pieces: &[KeptToken],
     index: usize,
     ahead: usize,
     next: usize,
@@ -198,7 +205,7 @@ fn looped_over(
 }
 
 /// The name of the list that a loop goes over, which may be borrowed.
-fn looped(source: &[u8], pieces: &[PlacedToken], index: usize) -> Option<PlacedToken>
+fn looped(source: &[u8], pieces: &[KeptToken], index: usize) -> Option<PlacedToken>
     ensures { result ≡ spec.looped source.now pieces.now index }
 {
     if is(text_after(source, pieces, index, 1), "&") {
@@ -210,7 +217,7 @@ fn looped(source: &[u8], pieces: &[PlacedToken], index: usize) -> Option<PlacedT
 
 /// The list that a loop goes over by name, if this token is the loop's `in` and the loop's variable is used
 /// instead of a description. What is known about the variable is then known about the list.
-fn loop_at(source: &[u8], pieces: &[PlacedToken], uses: Uses<'_>, index: usize) -> Option<Use>
+fn loop_at(source: &[u8], pieces: &[KeptToken], uses: Uses<'_>, index: usize) -> Option<Use>
     requires { IsFound source.now pieces.now uses }
     ensures { result ≡ spec.loop_at source.now pieces.now uses.entry.list.now index }
 {
@@ -241,7 +248,7 @@ fn list_of(name: Option<PlacedToken>, known: Option<Known>) -> Option<Use>
 fn in_loops(
     alloc: Global,
     source: &[u8],
-    pieces: &[PlacedToken],
+    pieces: &[KeptToken],
     uses: Uses<'_>,
 ) -> Result<Vec<Use>, AllocError>
     requires { IsFound source.now pieces.now uses }
@@ -258,13 +265,13 @@ fn in_loops(
 pub fn uses_of(
     alloc: Global,
     source: &[u8],
-    pieces: &[PlacedToken],
+    pieces: &[KeptToken],
     aliases: Aliases<'_>,
     layout: &TokenLayout,
 ) -> Result<Vec<Use>, AllocError>
     requires layout { IsLayout source.now pieces.now layout.now }
     requires aliases { AreAliases source.now aliases }
-    ensures { IfOk result (λ uses. uses.items ≡ spec.uses_in source.now pieces.now aliases.entry.list.now) }
+    ensures { IfOk result (λ uses. uses.items ≡ spec.uses_in source.now pieces.now aliases.entry.list.now aliases.entry.own.now) }
 {
     let mut uses = in_calls(alloc, source, pieces, aliases, layout)?;
     let furthest = furthest_of(alloc, &uses)?;

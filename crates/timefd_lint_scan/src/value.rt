@@ -4,7 +4,7 @@ ghost use Rattle.std.specs.Prelude.{◌≡◌};
 ghost use Rattle.timefd_lint_scan.specs.Values as spec;
 
 use crate::dialect::is;
-use crate::piece::PlacedToken;
+use crate::kept::KeptToken;
 use crate::word::{is_closing, is_opening, text_after, text_before};
 
 /// Whether an equals sign after this token is part of a comparison or of an operator.
@@ -21,7 +21,7 @@ pub fn is_operator(text: &[u8]) -> bool
 
 /// Whether a value may begin at a token: an opening bracket, a comma, an arrow, an equals sign, `in`, or the
 /// end of a statement precedes it.
-fn begins_value(source: &[u8], pieces: &[PlacedToken], index: usize) -> bool
+fn begins_value(source: &[u8], pieces: &[KeptToken], index: usize) -> bool
     ensures { result ≡ spec.begins_value source.now pieces.now index }
 {
     let before = text_before(source, pieces, index, 1);
@@ -56,7 +56,7 @@ fn ends(text: &[u8]) -> bool
 }
 
 /// Whether a value may end with a token, or with a method that passes it on.
-pub fn ends_value(source: &[u8], pieces: &[PlacedToken], index: usize) -> bool
+pub fn ends_value(source: &[u8], pieces: &[KeptToken], index: usize) -> bool
     ensures { result ≡ spec.ends_value source.now pieces.now index }
 {
     let after = text_after(source, pieces, index, 1);
@@ -69,7 +69,7 @@ pub fn ends_value(source: &[u8], pieces: &[PlacedToken], index: usize) -> bool
 }
 
 /// The index of a value's first token: the `&` or `*` before it, if there is one.
-fn borrowed_at(source: &[u8], pieces: &[PlacedToken], index: usize) -> usize
+fn borrowed_at(source: &[u8], pieces: &[KeptToken], index: usize) -> usize
     ensures { result ≡ spec.borrowed_at source.now pieces.now index }
 {
     let before = text_before(source, pieces, index, 1);
@@ -81,14 +81,14 @@ fn borrowed_at(source: &[u8], pieces: &[PlacedToken], index: usize) -> usize
 }
 
 /// Whether a value begins at a token, with or without `&` or `*`.
-pub fn is_begun(source: &[u8], pieces: &[PlacedToken], index: usize) -> bool
+pub fn is_begun(source: &[u8], pieces: &[KeptToken], index: usize) -> bool
     ensures { result ≡ spec.is_begun source.now pieces.now index }
 {
     begins_value(source, pieces, borrowed_at(source, pieces, index))
 }
 
 /// Whether a token is a whole value.
-pub fn is_value(source: &[u8], pieces: &[PlacedToken], index: usize) -> bool
+pub fn is_value(source: &[u8], pieces: &[KeptToken], index: usize) -> bool
     ensures { result ≡ spec.is_value source.now pieces.now index }
 {
     is_begun(source, pieces, index) && ends_value(source, pieces, index)

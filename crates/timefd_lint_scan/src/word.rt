@@ -4,6 +4,7 @@ ghost use Rattle.std.specs.Prelude.{◌≡◌, drop};
 ghost use Rattle.timefd_lint_scan.specs.Words as spec;
 
 use crate::dialect::is;
+use crate::kept::KeptToken;
 use crate::literal::cut;
 use crate::piece::PlacedToken;
 use crate::token::Token;
@@ -19,14 +20,14 @@ pub fn text_of(source: &[u8], piece: PlacedToken) -> &[u8]
 }
 
 /// The tokens from an index on.
-pub fn tokens_from(pieces: &[PlacedToken], index: usize) -> &[PlacedToken]
+pub fn tokens_from(pieces: &[KeptToken], index: usize) -> &[KeptToken]
     ensures { result.now ≡ drop index pieces.now }
 {
     pieces.get(index..).unwrap_or(&[])
 }
 
 /// The tokens after the one at an index.
-pub fn tokens_after(pieces: &[PlacedToken], index: usize) -> &[PlacedToken]
+pub fn tokens_after(pieces: &[KeptToken], index: usize) -> &[KeptToken]
     ensures { result.now ≡ spec.tokens_after pieces.now index }
 {
     match tokens_from(pieces, index) {
@@ -36,14 +37,11 @@ pub fn tokens_after(pieces: &[PlacedToken], index: usize) -> &[PlacedToken]
 }
 
 /// The text of the token at an index; empty if there is none.
-pub fn text_at<'a>(source: &'a [u8], pieces: &[PlacedToken], index: usize) -> &'a [u8]
+pub fn text_at<'a>(source: &'a [u8], pieces: &[KeptToken], index: usize) -> &'a [u8]
     ensures { result.now ≡ spec.text_at source.now pieces.now index }
 {
     match pieces.get(index) {
-        Some(piece) => match cut(source, *piece) {
-            Some(text) => text,
-            None => &[],
-        },
+        Some(piece) => piece.text(source),
         None => &[],
     }
 }
@@ -51,7 +49,7 @@ pub fn text_at<'a>(source: &'a [u8], pieces: &[PlacedToken], index: usize) -> &'
 /// The text of the token `ahead` tokens after the one at an index.
 pub fn text_after<'a>(
     source: &'a [u8],
-    pieces: &[PlacedToken],
+    pieces: &[KeptToken],
     index: usize,
     ahead: usize,
 ) -> &'a [u8]
@@ -66,7 +64,7 @@ pub fn text_after<'a>(
 /// The text of the token `back` tokens before the one at an index.
 pub fn text_before<'a>(
     source: &'a [u8],
-    pieces: &[PlacedToken],
+    pieces: &[KeptToken],
     index: usize,
     back: usize,
 ) -> &'a [u8]
@@ -80,11 +78,11 @@ pub fn text_before<'a>(
 }
 
 /// Whether the token at an index is a word.
-pub fn is_word_at(pieces: &[PlacedToken], index: usize) -> bool
+pub fn is_word_at(pieces: &[KeptToken], index: usize) -> bool
     ensures { result ≡ spec.is_word_at pieces.now index }
 {
     match pieces.get(index) {
-        Some(piece) => is_word_token(piece.token),
+        Some(piece) => is_word_token(piece.token()),
         None => false,
     }
 }
@@ -106,11 +104,11 @@ pub fn is_word_token(token: Token) -> bool
 }
 
 /// Where the token at an index begins, as a byte index; 0 if there is none.
-pub fn position_at(pieces: &[PlacedToken], index: usize) -> usize
+pub fn position_at(pieces: &[KeptToken], index: usize) -> usize
     ensures { result ≡ spec.position_at pieces.now index }
 {
     match pieces.get(index) {
-        Some(piece) => piece.start,
+        Some(piece) => piece.start(),
         None => 0,
     }
 }

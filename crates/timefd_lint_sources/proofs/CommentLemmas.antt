@@ -6,8 +6,7 @@ use Rattle.timefd_lint_scan.specs.Bytes.{Text}
 use Rattle.timefd_lint_scan.specs.Gathered.{AreComments, comment_kept, comments}
 use Rattle.timefd_lint_scan.specs.Marks.{is_comment}
 use Rattle.timefd_lint_sources.specs.declared.allowances.comment.Allowance.{Allowance}
-use Rattle.timefd_lint_sources.specs.declared.reported.Finder.TheVariants.{Rust}
-use Rattle.timefd_lint_sources.specs.Allowances.Found.{AreBy, in_token, in_tokens}
+use Rattle.timefd_lint_sources.specs.Allowances.Found.{AreByRust, in_token, in_tokens}
 
 in_comments : (source : Text) (ps : List PlacedToken) → in_tokens source (comments ps) ≡ in_tokens source ps
 in_comments source [] = refl
@@ -26,7 +25,7 @@ in_comments source (p ∷ ps) = elim (cases_Bool (is_comment p.token)) [
 -- What all comments allow is what all tokens allow.
 pub by_comments : (source bytes : Text) (notes given : List PlacedToken) (none found : List Allowance)
     → AreComments source notes → bytes ≡ source → given ≡ notes → none ≡ []
-    → found ≡ none ++ in_tokens bytes given → AreBy Rust source found
+    → found ≡ none ++ in_tokens bytes given → AreByRust source found
 by_comments source bytes notes given none found are here same empty allowed = (
   are.all,
   are.tokens,

@@ -4,13 +4,12 @@ pub mod ReachLemmas
 mod ItemLemmas
 mod OpeningLemmas
 mod SearchLemmas
-mod OtherLemmas
+mod VerdictLemmas
 mod JudgedLemmas
 mod ReportedLemmas
 mod ReportLemmas
 pub mod FinderLemmas
 mod NoCodeLemmas
-mod RemainderLemmas
 mod SeenLemmas
 pub mod PlacedLemmas
 pub mod RewritingLemmas

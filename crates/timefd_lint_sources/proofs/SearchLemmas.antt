@@ -8,7 +8,7 @@ use Rattle.timefd_lang_dialect.specs.declared.reading.Converted.{Converted}
 use Rattle.timefd_lang_dialect.specs.Answers.{IsConverted}
 use Rattle.timefd_lang_dialect.specs.Reading.{RefusedAt}
 use Rattle.timefd_lint_drawing.specs.Positions.{after, goes_on}
-use Rattle.timefd_lint_sources.specs.declared.reported.Finder.{Finder}
+use Rattle.timefd_lint_sources.specs.declared.verdict.RefusedParts.{RefusedParts}
 use Rattle.timefd_lint_sources.specs.Refusing.{is_refused}
 use Rattle.timefd_lint_sources.specs.Search.{IsSearched, IsSpared, MeansAny, Passes, after_sign, moved}
 use Rattle.std.specs.Prelude.{None, Some}
@@ -18,46 +18,46 @@ pub has_meaning : (dialect : Dialect) (text : Text) (answer : Converted) → IsC
 has_meaning dialect text answer is = (is.0, is.1)
 
 -- What is passed over so far.
-pub record HasPassed (finder : Finder) (dialect : Dialect) (text rest : Text) : Type 0 where
+pub record HasPassed (parts : RefusedParts) (dialect : Dialect) (text rest : Text) : Type 0 where
   pub passed : List ℕ
-  pub passes : Passes finder dialect text passed rest
+  pub passes : Passes parts dialect text passed rest
 
-pub none_passed : (finder : Finder) (dialect : Dialect) (text : Text) → HasPassed finder dialect text text
-none_passed finder dialect text = record { passed = []; passes = refl }
+pub none_passed : (parts : RefusedParts) (dialect : Dialect) (text : Text) → HasPassed parts dialect text text
+none_passed parts dialect text = record { passed = []; passes = refl }
 
-one_more : (finder : Finder) (dialect : Dialect) (text : Text) (passed : List ℕ) (rest : Text) (index : ℕ)
-    → Passes finder dialect text passed rest → IsSpared finder dialect rest index
-    → Passes finder dialect text (passed ++ index ∷ []) (after_sign index rest)
-one_more finder dialect text [] rest index so_far spared =
-    (subst (λ t. IsSpared finder dialect t index) (sym so_far) spared, ap (after_sign index) so_far)
-one_more finder dialect text (first ∷ passed) rest index so_far spared =
-    (so_far.0, one_more finder dialect (after_sign first text) passed rest index so_far.1 spared)
+one_more : (parts : RefusedParts) (dialect : Dialect) (text : Text) (passed : List ℕ) (rest : Text) (index : ℕ)
+    → Passes parts dialect text passed rest → IsSpared parts dialect rest index
+    → Passes parts dialect text (passed ++ index ∷ []) (after_sign index rest)
+one_more parts dialect text [] rest index so_far spared =
+    (subst (λ t. IsSpared parts dialect t index) (sym so_far) spared, ap (after_sign index) so_far)
+one_more parts dialect text (first ∷ passed) rest index so_far spared =
+    (so_far.0, one_more parts dialect (after_sign first text) passed rest index so_far.1 spared)
 
-pub has_passed_more : (finder : Finder) (dialect : Dialect) (text rest next : Text) (refusal : RefusedPart)
-    → HasPassed finder dialect text rest → RefusedAt dialect rest refusal.reason refusal.index
-    → is_refused finder dialect refusal.reason ≡ false → next ≡ after_sign refusal.index rest
-    → HasPassed finder dialect text next
-has_passed_more finder dialect text rest next refusal so_far refused spared is = record {
+pub has_passed_more : (parts : RefusedParts) (dialect : Dialect) (text rest next : Text) (refusal : RefusedPart)
+    → HasPassed parts dialect text rest → RefusedAt dialect rest refusal.reason refusal.index
+    → is_refused parts dialect refusal.reason ≡ false → next ≡ after_sign refusal.index rest
+    → HasPassed parts dialect text next
+has_passed_more parts dialect text rest next refusal so_far refused spared is = record {
   passed = so_far.passed ++ refusal.index ∷ [];
-  passes = subst (λ t. Passes finder dialect text (so_far.passed ++ refusal.index ∷ []) t) (sym is)
-      (one_more finder dialect text so_far.passed rest refusal.index so_far.passes
+  passes = subst (λ t. Passes parts dialect text (so_far.passed ++ refusal.index ∷ []) t) (sym is)
+      (one_more parts dialect text so_far.passed rest refusal.index so_far.passes
       (refusal.reason, refused, spared));
 }
 
-pub all_is_right : (finder : Finder) (dialect : Dialect) (text rest : Text)
-    → HasPassed finder dialect text rest → MeansAny dialect rest → IsSearched finder dialect text None
-all_is_right finder dialect text rest so_far means = (so_far.passed, rest, so_far.passes, means)
+pub all_is_right : (parts : RefusedParts) (dialect : Dialect) (text rest : Text)
+    → HasPassed parts dialect text rest → MeansAny dialect rest → IsSearched parts dialect text None
+all_is_right parts dialect text rest so_far means = (so_far.passed, rest, so_far.passes, means)
 
-pub nothing_left : (finder : Finder) (dialect : Dialect) (text rest : Text) → HasPassed finder dialect text rest
-    → rest ≡ [] → IsSearched finder dialect text None
-nothing_left finder dialect text rest so_far none =
-    all_is_right finder dialect text rest so_far ([], none)
+pub nothing_left : (parts : RefusedParts) (dialect : Dialect) (text rest : Text) → HasPassed parts dialect text rest
+    → rest ≡ [] → IsSearched parts dialect text None
+nothing_left parts dialect text rest so_far none =
+    all_is_right parts dialect text rest so_far ([], none)
 
-pub is_found : (finder : Finder) (dialect : Dialect) (text rest : Text) (refusal found : RefusedPart)
-    → HasPassed finder dialect text rest → RefusedAt dialect rest refusal.reason refusal.index
-    → is_refused finder dialect refusal.reason ≡ true → found ≡ moved (length text) (length rest) refusal
-    → IsSearched finder dialect text (Some found)
-is_found finder dialect text rest refusal found so_far refused is same =
+pub is_found : (parts : RefusedParts) (dialect : Dialect) (text rest : Text) (refusal found : RefusedPart)
+    → HasPassed parts dialect text rest → RefusedAt dialect rest refusal.reason refusal.index
+    → is_refused parts dialect refusal.reason ≡ true → found ≡ moved (length text) (length rest) refusal
+    → IsSearched parts dialect text (Some found)
+is_found parts dialect text rest refusal found so_far refused is same =
     (so_far.passed, rest, refusal, so_far.passes, refused, is, same)
 
 -- What is left is shorter.

@@ -7,6 +7,7 @@ use Rattle.timefd_lint_scan.specs.declared.keys.key.DescriptionKey.{DescriptionK
 use Rattle.timefd_lint_scan.specs.Keys.Found as keyed
 use Rattle.timefd_lint_scan.specs.declared.description.SourceDescription.{SourceDescription}
 use Rattle.timefd_lint_scan.specs.declared.look.Look.{Look}
+use Rattle.timefd_lint_scan.specs.declared.own_call.OwnCall.{OwnCall}
 use Rattle.timefd_lint_scan.specs.Found.{AllStandIn, AreDescriptionsOf, AreInOrder}
 use Rattle.timefd_lint_scan.specs.Looks.{IsLook}
 use Rattle.timefd_lint_scan.proofs.LookLemmas.{all_seen, seen_in_order, seen_stand}
@@ -21,10 +22,11 @@ use Rattle.timefd_lint_sources.specs.Remarks.{AddsCodes, AreRemarksBy, AreSeenIn
 use Rattle.timefd_lint_sources.specs.Reported.{AreJudgedIn, AreRemarksOn, AreSeen, AreSeenFirst, AreReportedAs, IsSourceReported}
 use Rattle.timefd_lint_sources.proofs.FinderLemmas.{all_by_keys, all_by_rust, by_keys, by_rust}
 
-pub of_look : (source : Text) (look : Look) (calls comments : List ℕ) (remarks : List Remark) → IsLook source look
+pub of_look : (source : Text) (own : List OwnCall) (look : Look) (calls comments : List ℕ) (remarks : List Remark)
+    → IsLook source own look
     → calls ≡ look.calls.items → comments ≡ look.comments.items → remarks ≡ remarks_on calls comments
-    → AreSeenIn source look.descriptions.items remarks
-of_look source look calls comments remarks is calls_are comments_are remarked = record {
+    → AreSeenIn source own look.descriptions.items remarks
+of_look source own look calls comments remarks is calls_are comments_are remarked = record {
   look = look;
   is = is;
   same = refl;
@@ -37,14 +39,16 @@ pub of_values : (format : FileFormat) (source : Text) (names : List DescriptionK
 of_values format source names ds unread positions remarks values same remarked =
     record { unread = unread; values = values; remarked = remarked ∙ ap on_values same }
 
-pub of_rust : (s : SourceText) (source : Text) (ds : List SourceDescription) (remarks : List Remark) → s.finder ≡ Rust
-    → source ≡ s.text.now → AreSeenIn source ds remarks → AreSeenFirst s ds remarks
-of_rust s source ds remarks is same seen =
-    let here : AreSeenIn s.text.now ds remarks = subst (λ t. AreSeenIn t ds remarks) same seen in record {
-      all = all_by_rust s ds is
-          (subst (AreDescriptionsOf s.text.now) here.same (all_seen s.text.now here.look here.is));
-      stand = by_rust s ds is (subst (AllStandIn s.text.now) here.same (seen_stand s.text.now here.look here.is));
-      in_order = subst (AreInOrder 0) here.same (seen_in_order s.text.now here.look here.is);
+pub of_rust : (s : SourceText) (source : Text) (calls : Bor (List OwnCall)) (ds : List SourceDescription) (remarks : List Remark)
+    → s.finder ≡ Rust calls → source ≡ s.text.now → AreSeenIn source calls.now ds remarks → AreSeenFirst s ds remarks
+of_rust s source calls ds remarks is same seen =
+    let here : AreSeenIn s.text.now calls.now ds remarks =
+    subst (λ t. AreSeenIn t calls.now ds remarks) same seen in record {
+      all = all_by_rust s calls ds is
+          (subst (AreDescriptionsOf s.text.now calls.now) here.same (all_seen s.text.now calls.now here.look here.is));
+      stand = by_rust s calls ds is
+          (subst (AllStandIn s.text.now) here.same (seen_stand s.text.now calls.now here.look here.is));
+      in_order = subst (AreInOrder 0) here.same (seen_in_order s.text.now calls.now here.look here.is);
       remarked = subst (λ f. AreRemarksBy f s.text.now ds remarks) (sym is) here;
     }
 

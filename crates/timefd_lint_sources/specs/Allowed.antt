@@ -1,8 +1,13 @@
 -- What comments allow at a description, and what is left.
-use Rattle.std.specs.Prelude.{ℕ, ◌-◌, Bool, false, ◌&&◌, if◌then◌else◌, List, [], ◌∷◌, ◌++◌, flat_map, nat_lt}
+use Rattle.std.specs.Prelude.{ℕ, ◌≡◌, ◌+◌, ◌-◌, Bool, true, false, ◌&&◌, if◌then◌else◌, List, [], ◌∷◌, flat_map, length, nat_lt, option_map}
+use Rattle.std.specs.Io.Iter.{u64_saturate}
+use Rattle.std.specs.declared.alloc.Global.{Global}
+use Rattle.std.specs.declared.vec.Vec.{Vec}
 use Rattle.timefd_lang_component.specs.Tree.{Text}
 use Rattle.timefd_lint_diagnosis.specs.declared.diagnostic.Diagnostic.{Diagnostic}
+use Rattle.timefd_lang_dialect.specs.declared.error.RefusedPart.{RefusedPart}
 use Rattle.timefd_lang_dialect.specs.declared.trapping.Found.{Found}
+use Rattle.timefd_lang_dialect.specs.Reasons as reasons
 use Rattle.timefd_lang_dialect.specs.TrapWords as traps
 use Rattle.timefd_lang_fault.specs.Codes as faults
 use Rattle.timefd_lang_fault.specs.Faults.{fault_of}
@@ -13,9 +18,12 @@ use Rattle.timefd_lang_warnings.specs.declared.warning.Warning.{Warning}
 use Rattle.timefd_lang_warnings.specs.Codes.{all, name_of}
 use Rattle.timefd_lang_warnings.specs.Levels.{count, with_level}
 use Rattle.timefd_lint_sources.specs.declared.left.Left.{Left}
+use Rattle.timefd_lint_sources.specs.declared.verdict.TextVerdict.{TextVerdict}
+use Rattle.timefd_lint_sources.specs.declared.verdict.TextVerdict.TheVariants.{Accepted, Faulty, Right, Refused}
 use Rattle.timefd_lint_sources.specs.declared.reported.Reporting.{Reporting}
 use Rattle.timefd_lint_sources.specs.declared.reported.SourceText.{SourceText}
 use Rattle.timefd_lint_sources.specs.Allowances.Found.{any_allows, any_covers}
+use Rattle.timefd_lint_sources.specs.Verdicts.{levels_of}
 
 -- Comments count, and one is about the description.
 abbrev pub is_covered : Reporting → SourceText → SourceDescription → Bool
@@ -44,32 +52,43 @@ code_of g = faults.name_of (faults.code_of (fault_of g.fault).kind)
 abbrev pub unless_allowed : SourceText → SourceDescription → Diagnostic → List Diagnostic
 unless_allowed s d g = if is_allowed s d (code_of g) then [] else g ∷ []
 
--- the faults that no comment allows
-abbrev pub faults_left : SourceText → SourceDescription → Diagnostic → List Diagnostic → List Diagnostic
-faults_left s d g further = unless_allowed s d g ++ flat_map (unless_allowed s d) further
-
 abbrev pub unless_trap : SourceText → SourceDescription → Found → List Found
 unless_trap s d f = if is_allowed s d (traps.name f.trap) then [] else f ∷ []
 
--- the traps that no comment allows
-abbrev pub traps_left : SourceText → SourceDescription → List Found → List Found
-traps_left s d found = flat_map (unless_trap s d) found
+abbrev pub IsRefusalLeft : Bool → RefusedPart → TextVerdict → Type 0
+IsRefusalLeft true part left = (none : Vec Found Global) × (left ≡ Right none) × (none.items ≡ [])
+IsRefusalLeft false part left = left ≡ Refused part
 
--- What is left of the warnings of an accepted description.
-abbrev pub left_of_warnings : Levels → Levels → Left
-left_of_warnings found left = record {
-  is_refused = nat_lt 0 (count Denied left);
-  warnings = count Warned left;
-  allowed = count Allowed left - count Allowed found;
-}
+-- What is left of a verdict: the warnings, faults and traps that no comment allows, and the part that is refused, unless
+-- a comment allows that.
+abbrev pub IsLeftOf : SourceText → SourceDescription → TextVerdict → TextVerdict → Type 0
+IsLeftOf s d (Accepted language found) left = left ≡ Accepted language (option_map (levels_left s d) found)
+IsLeftOf s d (Faulty faults) left = (rest : Vec Diagnostic Global) × (left ≡ Faulty rest)
+    × (rest.items ≡ flat_map (unless_allowed s d) faults.items)
+IsLeftOf s d (Right traps) left = (rest : Vec Found Global) × (left ≡ Right rest)
+    × (rest.items ≡ flat_map (unless_trap s d) traps.items)
+IsLeftOf s d (Refused part) left = IsRefusalLeft (is_allowed s d (reasons.name part.reason)) part left
 
--- What is left of so many faults, if the others are allowed.
-abbrev pub left_of_faults : ℕ → ℕ → Left
-left_of_faults found left = record { is_refused = nat_lt 0 left; warnings = 0; allowed = found - left }
+-- How many errors a verdict has, and how many other warnings.
+abbrev pub errors_in : TextVerdict → ℕ
+errors_in (Accepted language found) = count Denied (levels_of found)
+errors_in (Faulty faults) = length faults.items
+errors_in (Right traps) = 0
+errors_in (Refused part) = 1
 
--- What is left of so many traps.
-abbrev pub left_of_traps : ℕ → ℕ → Left
-left_of_traps found left = record { is_refused = false; warnings = left; allowed = found - left }
+abbrev pub warnings_in : TextVerdict → ℕ
+warnings_in (Accepted language found) = count Warned (levels_of found)
+warnings_in (Faulty faults) = 0
+warnings_in (Right traps) = length traps.items
+warnings_in (Refused part) = 0
+
+abbrev pub count_in : TextVerdict → ℕ
+count_in v = u64_saturate (errors_in v + warnings_in v)
+
+-- What is left of so many errors and warnings.
+abbrev pub left_of : ℕ → TextVerdict → Left
+left_of found left =
+    record { is_refused = nat_lt 0 (errors_in left); warnings = warnings_in left; allowed = found - count_in left }
 
 -- One error is allowed, and nothing is left.
 abbrev pub all_allowed : Left

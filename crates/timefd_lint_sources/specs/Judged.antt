@@ -1,9 +1,6 @@
 -- Which outcome a description of a source has.
-use Rattle.std.specs.Prelude.{◌≡◌, Bool, true, false, List, [], ◌∷◌, if◌then◌else◌, Option, Some, None, IsUtf8, IsTrue, IsFalse}
-use Rattle.std.specs.List.{flat_map}
+use Rattle.std.specs.Prelude.{◌≡◌, Bool, true, false, List, Option, Some, None, IsUtf8, IsTrue, IsFalse}
 use Rattle.timefd_lang_component.specs.Tree.{Text, Tree}
-use Rattle.timefd_lint_diagnosis.specs.declared.diagnostic.Diagnostic.{Diagnostic}
-use Rattle.timefd_lint_diagnosis.specs.Further.{AreDiagnosed}
 use Rattle.timefd_lang_dialect.specs.declared.dialect.Dialect as other
 use Rattle.timefd_lang_dialect.specs.declared.dialect.Dialect.TheVariants as others
 use Rattle.timefd_lang_fault.specs.Faults.{Fault}
@@ -15,13 +12,10 @@ use Rattle.timefd_parse.specs.Language.{SpellsIn, FaultIn}
 use Rattle.timefd_lint_scan.specs.declared.description.SourceDescription.{SourceDescription}
 use Rattle.timefd_lint_scan.specs.declared.dialect.FormatLanguage.{FormatLanguage}
 use Rattle.timefd_lint_scan.specs.declared.dialect.FormatLanguage.TheVariants.{One, Two, Three, Strftime, Python, C, Gnu, Chrono, Jiff, Ruby, Java, Go, Moment}
-use Rattle.timefd_lint_scan.specs.declared.known.Items.{Items}
-use Rattle.timefd_lint_scan.specs.declared.known.Items.TheVariants.{Taken, Refused as RefusedItems}
 use Rattle.timefd_lint_scan.specs.Chrono.{is_of_chrono, is_of_jiff}
 use Rattle.timefd_lang_warnings.specs.declared.levels.Levels.{Levels}
 use Rattle.timefd_lint_warnings.specs.Found.{found_by}
 use Rattle.timefd_lint_sources.specs.declared.reported.ItemEnd.{ItemEnd}
-use Rattle.timefd_lint_sources.specs.Items.{is_of_item}
 use Rattle.timefd_lint_sources.specs.declared.reported.ItemEnd.TheVariants.{PassedOver, Accepted, Converted, Refused, NotText, Allowed, UnreadCall, UnreadValue, WrongComment}
 
 -- the other language or library whose formats these are; none if they are of `time`
@@ -80,20 +74,6 @@ text_of d = d.unescaped.text.items
 
 abbrev pub language_in : SourceDescription → Language
 language_in d = language_of d.dialect
-
--- If the place takes items, faults that only `parse` finds aren't reported.
-abbrev pub unless_item : Diagnostic → List Diagnostic
-unless_item g = if is_of_item g.code then [] else g ∷ []
-
-abbrev pub reported_further : Items → List Diagnostic → List Diagnostic
-reported_further RefusedItems further = further
-reported_further Taken further = flat_map unless_item further
-
--- all that is reported about a refused description: its first fault, and its further ones
-pub record AreDiagnosedOf (d : SourceDescription) (g : Diagnostic) (further : List Diagnostic) : Type 0 where
-  pub found : List Diagnostic
-  pub are : AreDiagnosed (language_in d) (text_of d) g found
-  pub reported : further ≡ reported_further d.items found
 
 -- A text is accepted if it spells a list, with the warnings of that list; refused if it has a fault;
 -- and otherwise it isn't UTF-8.

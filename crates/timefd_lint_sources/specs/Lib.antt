@@ -4,12 +4,12 @@ pub mod Calls
 pub mod AtWord
 pub mod Refusing
 pub mod Search
+pub mod Verdicts
 pub mod Others
 pub mod Allowances
 pub mod Allowed
 pub mod CodeNames
 pub mod Remarks
 pub mod Whole
-pub mod Remainder
 pub mod Reported
 pub mod Rewriting

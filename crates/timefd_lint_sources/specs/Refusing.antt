@@ -5,8 +5,8 @@ use Rattle.timefd_lang_dialect.specs.declared.dialect.Dialect.TheVariants.{Pytho
 use Rattle.timefd_lang_dialect.specs.declared.reason.Reason.{Reason}
 use Rattle.timefd_lang_dialect.specs.declared.reason.Reason.TheVariants.{Backslash, Capitals, DatetimeOnly, DayPeriod, Era, Flag, FractionWidth, GmtOffset, HourFrom0Or24, JulianDay, LocalTime, LocalWeek, Locale, NarrowName, OptionalPart, OrdinalSuffix, PadLetter, Platform, Quarter, ReadingOnly, Reserved, TooManyLetters, TwoDigitYear, TwoLetterName, UnclosedQuote, UnitOfDay, UnknownDirective, UnknownLetter, Unsupported, VariableFraction, VariableOffset, VariableWidth, WeekOfMonth, Width, ZForUtc, ZoneName}
 use Rattle.timefd_lang_dialect.specs.Reasons.{is_unknown}
-use Rattle.timefd_lint_sources.specs.declared.reported.Finder.{Finder}
-use Rattle.timefd_lint_sources.specs.declared.reported.Finder.TheVariants.{Rust, Keys}
+use Rattle.timefd_lint_sources.specs.declared.verdict.RefusedParts.{RefusedParts}
+use Rattle.timefd_lint_sources.specs.declared.verdict.RefusedParts.TheVariants.{Unwritable, Unknown}
 
 abbrev pub is_unknown_directive : Reason → Bool
 is_unknown_directive Backslash = false
@@ -58,8 +58,8 @@ is_refused_in_rust Java reason = true
 is_refused_in_rust Go reason = true
 is_refused_in_rust Moment reason = true
 
--- In a source of Rust a format of chrono or jiff is refused if the library refuses it. Any other is refused if version 3
--- has no text for it.
-abbrev pub is_refused : Finder → Dialect → Reason → Bool
-is_refused Rust dialect reason = is_refused_in_rust dialect reason
-is_refused (Keys format names) dialect reason = true
+-- In a source of Rust a part of a format of chrono or jiff is refused if the library refuses it. Any other is refused if
+-- version 3 has no text for it.
+abbrev pub is_refused : RefusedParts → Dialect → Reason → Bool
+is_refused Unknown dialect reason = is_refused_in_rust dialect reason
+is_refused Unwritable dialect reason = true

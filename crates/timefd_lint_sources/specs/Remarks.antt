@@ -11,6 +11,7 @@ use Rattle.timefd_lint_scan.specs.declared.keys.key.DescriptionKey.{DescriptionK
 use Rattle.timefd_lint_scan.specs.Keys.Found.{AreValues}
 use Rattle.timefd_lint_scan.specs.declared.description.SourceDescription.{SourceDescription}
 use Rattle.timefd_lint_scan.specs.declared.look.Look.{Look}
+use Rattle.timefd_lint_scan.specs.declared.own_call.OwnCall.{OwnCall}
 use Rattle.timefd_lint_scan.specs.After.{after_run}
 use Rattle.timefd_lint_scan.specs.Bytes.{is_word}
 use Rattle.timefd_lint_scan.specs.Looks.{IsLook}
@@ -116,9 +117,9 @@ abbrev pub remarks_on : List ℕ → List ℕ → List Remark
 remarks_on calls comments = on_calls calls ++ on_comments comments
 
 -- The remarks on a Rust source are about the calls that are left unread, and about comments.
-pub record AreSeenIn (source : Text) (ds : List SourceDescription) (remarks : List Remark) : Type 0 where
+pub record AreSeenIn (source : Text) (own : List OwnCall) (ds : List SourceDescription) (remarks : List Remark) : Type 0 where
   pub look : Look
-  pub is : IsLook source look
+  pub is : IsLook source own look
   pub same : look.descriptions.items ≡ ds
   pub remarked : remarks ≡ remarks_on look.calls.items look.comments.items
 
@@ -130,7 +131,7 @@ pub record AreValuesSeen (format : FileFormat) (source : Text) (names : List Des
   pub remarked : remarks ≡ on_values unread
 
 abbrev pub AreRemarksBy : Finder → Text → List SourceDescription → List Remark → Type 0
-AreRemarksBy Rust source ds remarks = AreSeenIn source ds remarks
+AreRemarksBy (Rust calls) source ds remarks = AreSeenIn source calls.now ds remarks
 AreRemarksBy (Keys format names) source ds remarks = AreValuesSeen format source names.now ds remarks
 
 abbrev pub AreRemarks : SourceText → List SourceDescription → List Remark → Type 0

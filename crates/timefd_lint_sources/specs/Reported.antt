@@ -1,6 +1,6 @@
 -- What the linter reports about the descriptions of a source.
 use Rattle.std.specs.List.{All}
-use Rattle.std.specs.Prelude.{Bool, true, false, ◌≡◌, List, [], ◌∷◌, ◌++◌}
+use Rattle.std.specs.Prelude.{Bool, true, false, ◌≡◌, ◌⊎◌, ◌&&◌, List, [], ◌∷◌, ◌++◌, codes, IsUtf8}
 use Rattle.timefd_lang_component.specs.Tree.{Text}
 use Rattle.timefd_lint_scan.specs.declared.description.SourceDescription.{SourceDescription}
 use Rattle.timefd_lint_scan.specs.Keys.Found as keys
@@ -8,23 +8,42 @@ use Rattle.timefd_lint_scan.specs.Found.{AreDescriptionsOf, AreInOrder, StandsIn
 use Rattle.timefd_lint_sources.specs.declared.remark.Remark.{Remark}
 use Rattle.timefd_lint_sources.specs.declared.source.Report.{Report}
 use Rattle.timefd_lint_sources.specs.declared.reported.ItemEnd.{ItemEnd}
+use Rattle.timefd_lint_sources.specs.declared.reported.ItemEnd.TheVariants.{Allowed, NotText}
 use Rattle.timefd_lint_sources.specs.declared.reported.Finder.{Finder}
 use Rattle.timefd_lint_sources.specs.declared.reported.Finder.TheVariants.{Rust, Keys}
 use Rattle.timefd_lint_sources.specs.declared.reported.SourceText.{SourceText}
 use Rattle.timefd_lint_sources.specs.declared.reported.Reporting.{Reporting}
 use Rattle.timefd_lint_sources.specs.Items.{AreJudgedAs, IsJudgedAs}
 use Rattle.timefd_lint_sources.specs.Remarks.{AreAllRemarks, AreRemarks, ends_of, messages_of}
-use Rattle.timefd_lint_sources.specs.Allowed.{is_covered}
-use Rattle.timefd_lint_sources.specs.Remainder.{IsReportedLeft}
-use Rattle.timefd_lint_sources.specs.Whole.{IsReportedWhole}
+use Rattle.timefd_lint_sources.specs.declared.verdict.TextVerdict.{TextVerdict}
+use Rattle.timefd_lint_sources.specs.Allowed.{IsLeftOf, all_allowed, count_in, is_allowed, is_covered, left_of}
+use Rattle.timefd_lint_sources.specs.Judged.{text_of}
+use Rattle.timefd_lint_sources.specs.Verdicts.{IsVerdict, place_of}
+use Rattle.timefd_lint_sources.specs.Whole.{IsDrawn, end_of, note_of}
 
-abbrev pub IsReportedIf : Bool → Reporting → SourceText → SourceDescription → ItemEnd → Text → Type 0
-IsReportedIf false reporting s d end message = IsReportedWhole reporting s d end message
-IsReportedIf true reporting s d end message = IsReportedLeft reporting s d end message
+-- If no comment is about a description, the outcome says what is wrong with it, and all of that is reported. Otherwise the
+-- outcome says what is left, and that is reported.
+abbrev pub IsReportedIf : Bool → Reporting → SourceText → SourceDescription → TextVerdict → ItemEnd → Text → Type 0
+IsReportedIf false reporting s d verdict end message = (end ≡ end_of verdict) × IsDrawn reporting s d verdict message
+IsReportedIf true reporting s d verdict end message = (left : TextVerdict) × IsLeftOf s d verdict left
+    × (end ≡ Allowed (left_of (count_in verdict) left)) × IsDrawn reporting s d left message
 
--- All that is wrong with a description is reported, or, if a comment is about it, all that the comment doesn't allow.
+abbrev pub IsNoTextIf : Bool → Reporting → SourceText → SourceDescription → ItemEnd → Text → Type 0
+IsNoTextIf true reporting s d end message = (end ≡ Allowed all_allowed) × (message ≡ [])
+IsNoTextIf false reporting s d end message = (end ≡ NotText) × (message ≡ note_of reporting.style s d)
+
+-- A description that isn't UTF-8 is reported, unless that is allowed.
+abbrev pub IsNoTextReported : Reporting → SourceText → SourceDescription → ItemEnd → Text → Type 0
+IsNoTextReported reporting s d end message =
+    IsNoTextIf (is_covered reporting s d && is_allowed s d (codes "not-text")) reporting s d end message
+
+-- All that is wrong with a description where it stands is reported, or, if a comment is about it, all that the comment
+-- doesn't allow.
 abbrev pub IsReported : Reporting → SourceText → SourceDescription → ItemEnd → Text → Type 0
-IsReported reporting s d end message = IsReportedIf (is_covered reporting s d) reporting s d end message
+IsReported reporting s d end message =
+    (IsUtf8 (text_of d) × ((verdict : TextVerdict) × IsVerdict (place_of s.finder d) reporting.levels (text_of d) verdict
+    × IsReportedIf (is_covered reporting s d) reporting s d verdict end message))
+    ⊎ ((¬ IsUtf8 (text_of d)) × IsNoTextReported reporting s d end message)
 
 -- The outcome of one more description, and the messages on it, come after those of the others.
 abbrev pub AddsReported : Reporting → SourceText → SourceDescription → List ItemEnd → Text → List ItemEnd → Text → Type 0
@@ -48,7 +67,7 @@ pub record AreReportedAs (reporting : Reporting) (s : SourceText) (ds : List Sou
 
 -- A description is a literal of a Rust source, or the value of a key, in the key's language.
 abbrev pub IsFoundBy : Finder → Text → SourceDescription → Type 0
-IsFoundBy Rust source d = StandsIn source d
+IsFoundBy (Rust calls) source d = StandsIn source d
 IsFoundBy (Keys format names) source d = keys.IsValue format source names.now d
 
 abbrev pub IsFound : SourceText → SourceDescription → Type 0
@@ -59,7 +78,7 @@ AllFound s ds = All (IsFound s) ds
 
 -- They are all that a Rust source has, or all values of its keys that are looked at.
 abbrev pub AreAllBy : Finder → Text → List SourceDescription → Type 0
-AreAllBy Rust source ds = AreDescriptionsOf source ds
+AreAllBy (Rust calls) source ds = AreDescriptionsOf source calls.now ds
 AreAllBy (Keys format names) source ds = keys.AreAllValues format source names.now ds
 
 abbrev pub AreAllOf : SourceText → List SourceDescription → Type 0

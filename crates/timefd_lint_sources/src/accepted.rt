@@ -1,28 +1,26 @@
-//! What the linter reports about an accepted description.
+//! What the linter reports about an accepted text.
 
-ghost use Rattle.std.specs.Prelude.{◌≡◌, List, IfOk};
-ghost use Rattle.timefd_lang_component.specs.Tree.{Tree};
+ghost use Rattle.std.specs.Prelude.{◌≡◌, IfOk};
 ghost use Rattle.timefd_lint_drawing.specs.Counted.{IsCounted};
-ghost use Rattle.timefd_language.specs.Grammar.{nesting_limit};
-ghost use Rattle.timefd_parse.specs.Language.{SpellsIn};
-ghost use Rattle.timefd_lint_sources.specs.declared.reported.ItemEnd.TheVariants as ends;
-ghost use Rattle.timefd_lint_warnings.specs.Found.{found_by};
 ghost use Rattle.timefd_lint_explain.specs.Lines.{IsExplainedIf};
-ghost use Rattle.timefd_lint_sources.specs.Judged.{language_in, text_of};
-ghost use Rattle.timefd_lint_sources.specs.Whole.{IsMessageOn, IsTreeAndWarnings};
+ghost use Rattle.timefd_lint_sources.specs.Judged.{text_of};
+ghost use Rattle.timefd_lint_sources.specs.Verdicts as spec;
+ghost use Rattle.timefd_lint_sources.specs.Whole.{IsTreeAndWarnings, IsTreeWithWarnings};
 
-use crate::reported::{FIRST_LINE, ItemEnd, Reported, Reporting, SourceText};
+use crate::reported::{FIRST_LINE, Reporting, SourceText};
+use crate::verdict::levels_of;
 use std::alloc::{AllocError, Global};
-use timefd_lang_warnings::{Level, Levels};
+use timefd_lang_warnings::Levels;
 use timefd_lint_diagnosis::Span;
 use timefd_lint_drawing::{Counter, Origin, reported_position_from};
 use timefd_lint_explain::explained;
 use timefd_lint_scan::SourceDescription;
-use timefd_lint_warnings::{found_by, messages_at};
+use timefd_lint_warnings::messages_at;
 use timefd_parse::Language;
 
-/// Reports on a description that its language accepts: its tree, if that is asked for, and its
-/// warnings. An `Err` says that memory ran out.
+/// The tree of an accepted description, if it is asked for, and a message on each of these warnings. An `Err` says that
+/// memory ran out.
+#[tactic(auto, using(crate::proofs::ReportedLemmas::nothing_reported))]
 pub fn accepted(
     alloc: Global,
     reporting: Reporting,
@@ -31,45 +29,17 @@ pub fn accepted(
     description: &SourceDescription,
     language: Language,
     text: &str,
-) -> Result<Reported, AllocError>
-    requires language { language ≡ language_in description.now }
+    found: Option<Levels>,
+) -> Result<Vec<u8>, AllocError>
     requires text { text.now ≡ text_of description.now }
     requires counted { IsCounted 1 source.text.now from }
-    ensures end { (list : List Tree) → SpellsIn language nesting_limit text.now list
-        → IfOk result (λ reported. reported.end ≡ ends.Accepted (found_by reporting.levels language list)) }
-    ensures message { IfOk result (λ reported. IsMessageOn reporting source.entry description.now
-        reported.end reported.message.items) }
+    ensures { IfOk result (λ message. IsTreeAndWarnings language reporting source.entry description.now
+        (spec.levels_of found) message.items) }
 {
-    if reporting.explains || reporting.levels.is_some() {
-        explained_and_warned(alloc, reporting, source, from, description, language, text)
-    } else {
-        Ok(Reported {
-            end: ItemEnd::Accepted(Levels::all_at(Level::Allowed)),
-            message: Vec::new(alloc),
-        })
+    if !reporting.explains && found.is_none() {
+        return Ok(Vec::new(alloc));
     }
-}
-
-// Reports on an accepted description if there may be something to report.
-fn explained_and_warned(
-    alloc: Global,
-    reporting: Reporting,
-    source: SourceText<'_>,
-    from: Counter,
-    description: &SourceDescription,
-    language: Language,
-    text: &str,
-) -> Result<Reported, AllocError>
-    requires language { language ≡ language_in description.now }
-    requires text { text.now ≡ text_of description.now }
-    requires counted { IsCounted 1 source.text.now from }
-    ensures end { (list : List Tree) → SpellsIn language nesting_limit text.now list
-        → IfOk result (λ reported. reported.end ≡ ends.Accepted (found_by reporting.levels language list)) }
-    ensures message { IfOk result (λ reported. IsMessageOn reporting source.entry description.now
-        reported.end reported.message.items) }
-{
-    let found = found_by(alloc, reporting.levels, language, text)?;
-    let message = tree_and_warnings(
+    at_literal(
         alloc,
         reporting,
         source,
@@ -77,17 +47,12 @@ fn explained_and_warned(
         description,
         language,
         text,
-        found,
-    )?;
-    Ok(Reported {
-        end: ItemEnd::Accepted(found),
-        message,
-    })
+        levels_of(found),
+    )
 }
 
-/// The tree of an accepted description, if it is asked for, and a message on each of these warnings. An `Err` says that
-/// memory ran out.
-pub fn tree_and_warnings(
+// The tree and the warnings of a description, at the position of its literal.
+fn at_literal(
     alloc: Global,
     reporting: Reporting,
     source: SourceText<'_>,
@@ -97,10 +62,9 @@ pub fn tree_and_warnings(
     text: &str,
     found: Levels,
 ) -> Result<Vec<u8>, AllocError>
-    requires language { language ≡ language_in description.now }
     requires text { text.now ≡ text_of description.now }
     requires counted { IsCounted 1 source.text.now from }
-    ensures { IfOk result (λ message. IsTreeAndWarnings reporting source.entry description.now
+    ensures { IfOk result (λ message. IsTreeAndWarnings language reporting source.entry description.now
         found message.items) }
 {
     let format = reporting.style.format;
@@ -116,26 +80,47 @@ pub fn tree_and_warnings(
         file: source.file,
         line: position.line,
     };
-    let mut message = tree_of(alloc, reporting.explains, language, origin, text)?;
     let span = Span {
         start: description.piece.start,
         end: description.piece.end,
     };
-    let reported = messages_at(
+    tree_with_warnings(
         alloc,
-        reporting.style,
+        reporting,
         origin,
         source.text,
         span,
         text,
         position.column,
+        language,
         found,
-    )?;
+    )
+}
+
+/// The tree of an accepted text, if it is asked for, and a message on each of these warnings. The text is the part `span` of
+/// `whole`, and begins at this column of its line. An `Err` says that memory ran out.
+pub fn tree_with_warnings(
+    alloc: Global,
+    reporting: Reporting,
+    origin: Origin<'_>,
+    whole: &str,
+    span: Span,
+    text: &str,
+    column: usize,
+    language: Language,
+    found: Levels,
+) -> Result<Vec<u8>, AllocError>
+    ensures { IfOk result (λ message. IsTreeWithWarnings reporting origin.entry whole.now span text.now column
+        language found message.items) }
+{
+    let mut message = tree_of(alloc, reporting.explains, language, origin, text)?;
+    let style = reporting.style;
+    let reported = messages_at(alloc, style, origin, whole, span, text, column, found)?;
     message.extend_from_slice(&reported)?;
     Ok(message)
 }
 
-// The tree of an accepted description, if it is asked for.
+// The tree of an accepted text, if it is asked for.
 fn tree_of(
     alloc: Global,
     explains: bool,

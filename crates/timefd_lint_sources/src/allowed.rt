@@ -1,14 +1,16 @@
 //! What comments allow at a description.
 
-ghost use Rattle.std.specs.Prelude.{◌≡◌, ◌&&◌, ◌++◌, OnOk, IfOk, flat_map};
+ghost use Rattle.std.specs.Prelude.{◌≡◌, ◌&&◌, ◌++◌, OnOk, IfOk, flat_map, option_map};
+ghost use Rattle.timefd_lang_dialect.specs.Reasons as reasons;
 ghost use Rattle.timefd_lint_sources.specs.Allowances.Found as found;
 ghost use Rattle.timefd_lint_sources.specs.Allowed as spec;
 
 use crate::allowances::Allowance;
 use crate::cut::between;
 use crate::reported::{Reporting, SourceText};
+use crate::verdict::TextVerdict;
 use std::alloc::{AllocError, Global};
-use timefd_lang_dialect::Found;
+use timefd_lang_dialect::{Found, RefusedPart};
 use timefd_lang_warnings::{Level, Levels, Warning};
 use timefd_lint_diagnosis::{Diagnostic, code_of};
 use timefd_lint_scan::SourceDescription;
@@ -92,8 +94,8 @@ fn level_left(
     }
 }
 
-/// The levels of the warnings of a description that no comment allows.
-pub fn levels_left(source: SourceText<'_>, description: &SourceDescription, found: Levels) -> Levels
+// The levels of the warnings of a description that no comment allows.
+fn levels_left(source: SourceText<'_>, description: &SourceDescription, found: Levels) -> Levels
     ensures { result ≡ spec.levels_left source.entry description.now found }
 {
     let mut left = found;
@@ -120,19 +122,18 @@ fn push_diagnostic(
     Ok(())
 }
 
-/// The faults of a description that no comment allows. An `Err` says that memory ran out.
-pub fn faults_left(
+// The faults of a description that no comment allows.
+fn faults_left(
     alloc: Global,
     source: SourceText<'_>,
     description: &SourceDescription,
-    first: Diagnostic,
-    further: Vec<Diagnostic>,
+    faults: Vec<Diagnostic>,
 ) -> Result<Vec<Diagnostic>, AllocError>
-    ensures { IfOk result (λ left. left.items ≡ spec.faults_left source.entry description.now first further.items) }
+    ensures { IfOk result (λ left. left.items
+        ≡ flat_map (spec.unless_allowed source.entry description.now) faults.items) }
 {
     let mut left = Vec::new(alloc);
-    push_diagnostic(&mut left, source, description, first)?;
-    for diagnostic in further {
+    for diagnostic in faults {
         push_diagnostic(&mut left, source, description, diagnostic)?;
     }
     Ok(left)
@@ -153,8 +154,8 @@ fn push_trap(
     Ok(())
 }
 
-/// The traps of a format that no comment allows. An `Err` says that memory ran out.
-pub fn traps_left(
+// The traps of a format that no comment allows.
+fn traps_left(
     alloc: Global,
     source: SourceText<'_>,
     description: &SourceDescription,
@@ -168,4 +169,58 @@ pub fn traps_left(
         push_trap(&mut left, source, description, *trap)?;
     }
     Ok(left)
+}
+
+fn warnings_left(
+    source: SourceText<'_>,
+    description: &SourceDescription,
+    found: Option<Levels>,
+) -> Option<Levels>
+    ensures { result ≡ option_map (spec.levels_left source.entry description.now) found }
+{
+    match found {
+        Some(levels) => Some(levels_left(source, description, levels)),
+        None => None,
+    }
+}
+
+fn refusal_left(
+    alloc: Global,
+    source: SourceText<'_>,
+    description: &SourceDescription,
+    part: RefusedPart,
+) -> TextVerdict
+    ensures { spec.IsRefusalLeft (spec.is_allowed source.entry description.now (reasons.name part.reason)) part result }
+{
+    if is_allowed(source, description, part.reason.name()) {
+        TextVerdict::Right(Vec::new(alloc))
+    } else {
+        TextVerdict::Refused(part)
+    }
+}
+
+/// What is left of what is wrong with a description, without what comments allow. An `Err` says that memory ran out.
+pub fn verdict_left(
+    alloc: Global,
+    source: SourceText<'_>,
+    description: &SourceDescription,
+    verdict: TextVerdict,
+) -> Result<TextVerdict, AllocError>
+    ensures { IfOk result (spec.IsLeftOf source.entry description.now verdict) }
+{
+    match verdict {
+        TextVerdict::Accepted(language, found) => {
+            let left = warnings_left(source, description, found);
+            Ok(TextVerdict::Accepted(language, left))
+        }
+        TextVerdict::Faulty(faults) => {
+            let left = faults_left(alloc, source, description, faults)?;
+            Ok(TextVerdict::Faulty(left))
+        }
+        TextVerdict::Right(traps) => {
+            let left = traps_left(alloc, source, description, &traps)?;
+            Ok(TextVerdict::Right(left))
+        }
+        TextVerdict::Refused(part) => Ok(refusal_left(alloc, source, description, part)),
+    }
 }

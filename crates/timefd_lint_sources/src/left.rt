@@ -3,7 +3,8 @@
 ghost use Rattle.std.specs.Prelude.{◌≡◌};
 ghost use Rattle.timefd_lint_sources.specs.Allowed as spec;
 
-use timefd_lang_warnings::{Level, Levels};
+use crate::verdict::{TextVerdict, levels_of};
+use timefd_lang_warnings::Level;
 
 /// What is left of what is wrong with a description, if a comment is about it.
 #[derive(Clone, Copy)]
@@ -27,37 +28,41 @@ pub fn all_allowed() -> Left
     }
 }
 
-/// What is left of the warnings `found` of an accepted description, if comments change their levels to `left`.
-pub fn left_of_warnings(found: Levels, left: Levels) -> Left
-    ensures { result ≡ spec.left_of_warnings found left }
+/// What is left of so many errors and warnings, if comments allow all but `left`.
+pub fn left_of(found: u64, left: &TextVerdict) -> Left
+    ensures { result ≡ spec.left_of found left.now }
 {
     Left {
-        is_refused: left.count(Level::Denied) > 0,
-        warnings: left.count(Level::Warned),
-        allowed: left
-            .count(Level::Allowed)
-            .saturating_sub(found.count(Level::Allowed)),
+        is_refused: errors_in(left) > 0,
+        warnings: warnings_in(left),
+        allowed: found.saturating_sub(count_in(left)),
     }
 }
 
-/// What is left of so many errors, if comments allow all but `left`.
-pub fn left_of_faults(found: u64, left: u64) -> Left
-    ensures { result ≡ spec.left_of_faults found left }
+/// How many errors and warnings are reported of a text.
+pub fn count_in(verdict: &TextVerdict) -> u64
+    ensures { result ≡ spec.count_in verdict.now }
 {
-    Left {
-        is_refused: left > 0,
-        warnings: 0,
-        allowed: found.saturating_sub(left),
+    errors_in(verdict).saturating_add(warnings_in(verdict))
+}
+
+fn errors_in(verdict: &TextVerdict) -> u64
+    ensures { result ≡ spec.errors_in verdict.now }
+{
+    match verdict {
+        TextVerdict::Accepted(_, found) => levels_of(*found).count(Level::Denied),
+        TextVerdict::Faulty(faults) => faults.len() as u64,
+        TextVerdict::Right(_) => 0,
+        TextVerdict::Refused(_) => 1,
     }
 }
 
-/// What is left of so many traps, if comments allow all but `left`.
-pub fn left_of_traps(found: u64, left: u64) -> Left
-    ensures { result ≡ spec.left_of_traps found left }
+fn warnings_in(verdict: &TextVerdict) -> u64
+    ensures { result ≡ spec.warnings_in verdict.now }
 {
-    Left {
-        is_refused: false,
-        warnings: left,
-        allowed: found.saturating_sub(left),
+    match verdict {
+        TextVerdict::Accepted(_, found) => levels_of(*found).count(Level::Warned),
+        TextVerdict::Right(traps) => traps.len() as u64,
+        TextVerdict::Faulty(_) | TextVerdict::Refused(_) => 0,
     }
 }

@@ -8,9 +8,10 @@ mod at_call;
 mod at_word;
 mod codes;
 mod cut;
-mod further;
+mod drawn;
 mod item;
 mod judged;
+mod judging;
 mod language;
 mod left;
 mod no_code;
@@ -18,11 +19,11 @@ mod opening;
 mod other;
 mod placed;
 mod refusing;
-mod remainder;
 mod remark;
 mod reported;
 mod search;
 mod source;
+mod verdict;
 
 // Comments that allow errors and warnings.
 pub mod allowances;
@@ -30,17 +31,18 @@ pub mod allowances;
 // Sources with mended or converted descriptions.
 pub mod rewriting;
 
+pub use accepted::tree_with_warnings;
 pub use allowed::is_allowed;
 pub use codes::{Coded, push_codes};
-pub use further::further_of;
 pub use judged::holds_item;
+pub use judging::judge;
 pub use language::{is_passed_over, language_of, other_of};
 pub use left::Left;
 pub use no_code::{NO_CODE, NoCode, sentence_on};
 pub use opening::is_of_item;
 pub use remark::{NO_LANGUAGE, NO_LANGUAGE_SENTENCE, Remark, index_of_remark, word_at};
 pub use reported::{FIRST_LINE, Finder, ItemEnd, Reported, Reporting, SourceText};
-pub use search::first_refusal;
 pub use source::{
     Judged, Report, descriptions_in, judged_in, judged_with_remarks, lint_source, report_all,
 };
+pub use verdict::{RefusedParts, TextPlace, TextVerdict, levels_of, place_of};

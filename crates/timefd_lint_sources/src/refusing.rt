@@ -3,17 +3,16 @@
 ghost use Rattle.std.specs.Prelude.{◌≡◌};
 ghost use Rattle.timefd_lint_sources.specs.Refusing as spec;
 
-use crate::reported::Finder;
+use crate::verdict::RefusedParts;
 use timefd_lang_dialect::{Dialect, Reason};
 
-/// Whether a format is refused that version 3 can't write for this reason. In a source of Rust the formats of
-/// chrono and jiff are right if the library takes them, whatever version 3 has.
-pub fn is_refused(finder: Finder<'_>, dialect: Dialect, reason: Reason) -> bool
-    ensures { result ≡ spec.is_refused finder.entry dialect reason }
+/// Whether a part is refused, where these parts are, that version 3 can't write for this reason.
+pub fn is_refused(parts: RefusedParts, dialect: Dialect, reason: Reason) -> bool
+    ensures { result ≡ spec.is_refused parts dialect reason }
 {
-    match finder {
-        Finder::Rust => is_refused_in_rust(dialect, reason),
-        Finder::Keys(_, _) => true,
+    match parts {
+        RefusedParts::Unknown => is_refused_in_rust(dialect, reason),
+        RefusedParts::Unwritable => true,
     }
 }
 

@@ -1,30 +1,25 @@
 //! What the linter reports about one description.
 
-ghost use Rattle.std.specs.Prelude.{◌≡◌, IfOk, None};
+ghost use Rattle.std.specs.Prelude.{◌≡◌, IfOk, false, true};
 ghost use Rattle.timefd_lint_drawing.specs.Counted.{IsCounted};
-ghost use Rattle.timefd_lint_sources.specs.declared.reported.ItemEnd.TheVariants as ends;
+ghost use Rattle.timefd_lint_sources.specs.Allowed.{is_covered};
 ghost use Rattle.timefd_lint_sources.specs.Judged.{text_of};
-ghost use Rattle.timefd_lint_sources.specs.Judged as judging;
-ghost use Rattle.timefd_lint_sources.specs.Reported.{IsReported};
-ghost use Rattle.timefd_lint_sources.specs.Whole.{IsReportedWhole, drawing_of, note_of};
+ghost use Rattle.timefd_lint_sources.specs.Reported.{IsNoTextReported, IsReported, IsReportedIf};
+ghost use Rattle.timefd_lint_sources.specs.Whole as spec;
+ghost use Rattle.timefd_lint_sources.specs.Whole.{note_of};
 
-use crate::accepted::accepted;
 use crate::allowances::Allowance;
-use crate::allowed::is_covered;
-use crate::at_call::call_note;
-use crate::further::further_of;
-use crate::language::{language_of, other_of};
-use crate::left::Left;
-use crate::other::report_other;
-use crate::placed::{all_placed_in, placed_in};
-use crate::remainder::report_left;
+use crate::allowed::{is_allowed, is_covered, verdict_left};
+use crate::drawn::drawn;
+use crate::judging::judge;
+use crate::left::{Left, all_allowed, count_in, left_of};
+use crate::verdict::{TextVerdict, levels_of, place_of};
 use std::alloc::{AllocError, Global};
 use std::str;
 use timefd_lang_warnings::Levels;
-use timefd_lint_diagnosis::{Diagnostic, diagnose};
-use timefd_lint_drawing::{Counter, Origin, Style, counted, drawn_all_from, note};
-use timefd_lint_scan::SourceDescription;
+use timefd_lint_drawing::{Counter, Origin, Style, counted, note};
 use timefd_lint_scan::keys::{DescriptionKey, FileFormat};
+use timefd_lint_scan::{OwnCall, SourceDescription};
 
 /// The number of a source's first line.
 pub const FIRST_LINE: u64 = 1;
@@ -45,8 +40,8 @@ pub struct Reporting {
 /// How the descriptions in a source are found.
 #[derive(Clone, Copy)]
 pub enum Finder<'a> {
-    /// As string literals in Rust.
-    Rust,
+    /// As string literals in Rust, with these calls of the project.
+    Rust(&'a [OwnCall]),
     /// As strings of these keys, in a file of this format.
     Keys(FileFormat, &'a [DescriptionKey<'a>]),
 }
@@ -98,6 +93,7 @@ pub struct Reported {
 
 /// Checks a description of a source, and reports what is wrong with it at its position in the source, without what a
 /// comment allows. `from` says how far lines are counted. An `Err` says that memory ran out.
+#[tactic(auto, using(crate::proofs::ReportedLemmas::no_text))]
 pub fn report(
     alloc: Global,
     reporting: Reporting,
@@ -109,59 +105,14 @@ pub fn report(
     ensures { IfOk result (λ reported. IsReported reporting source.entry description.now
         reported.end reported.message.items) }
 {
-    if is_covered(reporting, source, description) {
-        report_left(alloc, reporting, source, from, description)
-    } else {
-        report_whole(alloc, reporting, source, from, description)
-    }
-}
-
-// Reports all that is wrong with a description.
-#[tactic(auto, using(crate::proofs::ReportedLemmas::no_text))]
-fn report_whole(
-    alloc: Global,
-    reporting: Reporting,
-    source: SourceText<'_>,
-    from: Counter,
-    description: &SourceDescription,
-) -> Result<Reported, AllocError>
-    requires { IsCounted 1 source.text.now from }
-    ensures { IfOk result (λ reported. IsReportedWhole reporting source.entry description.now
-        reported.end reported.message.items) }
-{
     match str::from_utf8(description.unescaped.text.as_slice()) {
         Ok(text) => judged(alloc, reporting, source, from, description, text),
-        Err(_) => not_text(alloc, reporting.style, source, from, description),
+        Err(_) => no_text(alloc, reporting, source, from, description),
     }
-}
-
-/// A note on a description that isn't UTF-8. An `Err` says that memory ran out.
-pub fn not_text(
-    alloc: Global,
-    style: Style,
-    source: SourceText<'_>,
-    from: Counter,
-    description: &SourceDescription,
-) -> Result<Reported, AllocError>
-    requires { IsCounted 1 source.text.now from }
-    ensures end { IfOk result (λ reported. reported.end ≡ ends.NotText) }
-    ensures message { IfOk result (λ reported. reported.message.items
-        ≡ note_of style source.entry description.now) }
-{
-    let counter = counted(FIRST_LINE, source.text, from, description.piece.start);
-    let origin = Origin {
-        file: source.file,
-        line: counter.line,
-    };
-    let message = note(alloc, style, origin, "not-text", "the bytes aren't UTF-8")?;
-    Ok(Reported {
-        end: ItemEnd::NotText,
-        message,
-    })
 }
 
 // Checks a description with this text.
-#[tactic(auto, using(crate::proofs::ReportedLemmas::as_other))]
+#[tactic(auto, using(crate::proofs::ReportedLemmas::with_verdict))]
 fn judged(
     alloc: Global,
     reporting: Reporting,
@@ -172,78 +123,130 @@ fn judged(
 ) -> Result<Reported, AllocError>
     requires counted { IsCounted 1 source.text.now from }
     requires text { text.now ≡ text_of description.now }
-    ensures { IfOk result (λ reported. IsReportedWhole reporting source.entry description.now
+    ensures { IfOk result (λ reported. IsReported reporting source.entry description.now
         reported.end reported.message.items) }
 {
-    match other_of(description.dialect) {
-        Some(dialect) => {
-            report_other(alloc, reporting, source, from, description, dialect, text)
-        }
-        None => own_judged(alloc, reporting, source, from, description, text),
-    }
+    let place = place_of(source.finder, description);
+    let verdict = judge(alloc, place, reporting.levels, text)?;
+    report_verdict(alloc, reporting, source, from, description, text, verdict)
 }
 
-// Checks a description of `time` with this text.
-#[tactic(auto, using(crate::proofs::ReportedLemmas::with_list, crate::proofs::ReportedLemmas::with_fault))]
-fn own_judged(
+// Reports what is wrong with a description, or what is left of that if a comment is about it.
+fn report_verdict(
     alloc: Global,
     reporting: Reporting,
     source: SourceText<'_>,
     from: Counter,
     description: &SourceDescription,
     text: &str,
+    verdict: TextVerdict,
 ) -> Result<Reported, AllocError>
     requires counted { IsCounted 1 source.text.now from }
-    requires own { judging.other_of description.now.dialect ≡ None }
     requires text { text.now ≡ text_of description.now }
-    ensures { IfOk result (λ reported. IsReportedWhole reporting source.entry description.now
-        reported.end reported.message.items) }
+    ensures { IfOk result (λ reported. IsReportedIf (is_covered reporting source.entry description.now) reporting
+        source.entry description.now verdict reported.end reported.message.items) }
 {
-    let language = language_of(description.dialect);
-    match diagnose(alloc, language, text)? {
-        None => accepted(alloc, reporting, source, from, description, language, text),
-        Some(diagnostic) => {
-            let further = further_of(alloc, description, text, &diagnostic)?;
-            refused(
-                alloc,
-                reporting.style,
-                source,
-                from,
-                description,
-                diagnostic,
-                further,
-            )
-        }
+    if is_covered(reporting, source, description) {
+        report_left(alloc, reporting, source, from, description, text, verdict)
+    } else {
+        report_whole(alloc, reporting, source, from, description, text, verdict)
     }
 }
 
-// The drawings of what is wrong with a description, at its position in the source, and a note at a call that
-// takes it by name.
-fn refused(
+// Reports all that is wrong with a description.
+fn report_whole(
+    alloc: Global,
+    reporting: Reporting,
+    source: SourceText<'_>,
+    from: Counter,
+    description: &SourceDescription,
+    text: &str,
+    verdict: TextVerdict,
+) -> Result<Reported, AllocError>
+    requires counted { IsCounted 1 source.text.now from }
+    requires text { text.now ≡ text_of description.now }
+    ensures { IfOk result (λ reported. IsReportedIf false reporting source.entry description.now verdict
+        reported.end reported.message.items) }
+{
+    let end = end_of(&verdict);
+    let message = drawn(alloc, reporting, source, from, description, text, verdict)?;
+    Ok(Reported { end, message })
+}
+
+// Reports what is left of what is wrong with a description.
+fn report_left(
+    alloc: Global,
+    reporting: Reporting,
+    source: SourceText<'_>,
+    from: Counter,
+    description: &SourceDescription,
+    text: &str,
+    verdict: TextVerdict,
+) -> Result<Reported, AllocError>
+    requires counted { IsCounted 1 source.text.now from }
+    requires text { text.now ≡ text_of description.now }
+    ensures { IfOk result (λ reported. IsReportedIf true reporting source.entry description.now verdict
+        reported.end reported.message.items) }
+{
+    let found = count_in(&verdict);
+    let left = verdict_left(alloc, source, description, verdict)?;
+    let end = ItemEnd::Allowed(left_of(found, &left));
+    let message = drawn(alloc, reporting, source, from, description, text, left)?;
+    Ok(Reported { end, message })
+}
+
+// The outcome of a description that no comment is about.
+fn end_of(verdict: &TextVerdict) -> ItemEnd
+    ensures { result ≡ spec.end_of verdict.now }
+{
+    match verdict {
+        TextVerdict::Accepted(_, found) => ItemEnd::Accepted(levels_of(*found)),
+        TextVerdict::Right(traps) => ItemEnd::Converted(traps.len() as u64),
+        TextVerdict::Faulty(_) | TextVerdict::Refused(_) => ItemEnd::Refused,
+    }
+}
+
+// Reports a description that isn't UTF-8, unless that is allowed.
+fn no_text(
+    alloc: Global,
+    reporting: Reporting,
+    source: SourceText<'_>,
+    from: Counter,
+    description: &SourceDescription,
+) -> Result<Reported, AllocError>
+    requires { IsCounted 1 source.text.now from }
+    ensures { IfOk result (λ reported. IsNoTextReported reporting source.entry description.now
+        reported.end reported.message.items) }
+{
+    if is_covered(reporting, source, description) && is_allowed(source, description, "not-text") {
+        return Ok(Reported {
+            end: ItemEnd::Allowed(all_allowed()),
+            message: Vec::new(alloc),
+        });
+    }
+    let message = no_text_note(alloc, reporting.style, source, from, description)?;
+    Ok(Reported {
+        end: ItemEnd::NotText,
+        message,
+    })
+}
+
+// A note on a description that isn't UTF-8.
+fn no_text_note(
     alloc: Global,
     style: Style,
     source: SourceText<'_>,
     from: Counter,
     description: &SourceDescription,
-    diagnostic: Diagnostic,
-    further: Vec<Diagnostic>,
-) -> Result<Reported, AllocError>
+) -> Result<Vec<u8>, AllocError>
     requires { IsCounted 1 source.text.now from }
-    ensures end { IfOk result (λ reported. reported.end ≡ ends.Refused) }
-    ensures message { IfOk result (λ reported. reported.message.items
-        ≡ drawing_of style source.entry description.now diagnostic further.items) }
+    ensures { IfOk result (λ message. message.items ≡ note_of style source.entry description.now) }
 {
+    let counter = counted(FIRST_LINE, source.text, from, description.piece.start);
     let origin = Origin {
         file: source.file,
-        line: FIRST_LINE,
+        line: counter.line,
     };
-    let first = placed_in(description, diagnostic);
-    let others = all_placed_in(alloc, description, further)?;
-    let mut message = drawn_all_from(alloc, style, origin, source.text, from, &first, &others)?;
-    let note = call_note(alloc, style, source, from, description)?;
-    message.extend_from_slice(&note)?;
-    Ok(Reported {
-        end: ItemEnd::Refused,
-        message,
-    })
+    let message = note(alloc, style, origin, "not-text", "the bytes aren't UTF-8")?;
+    Ok(message)
 }

@@ -6,7 +6,7 @@ ghost use Rattle.timefd_lint_sources.specs.Search as spec;
 
 use crate::cut::after_index;
 use crate::refusing::is_refused;
-use crate::reported::Finder;
+use crate::verdict::RefusedParts;
 use std::alloc::{AllocError, Global};
 use timefd_lang_dialect::{Dialect, DialectError, RefusedPart, to_version_three};
 
@@ -15,18 +15,18 @@ use timefd_lang_dialect::{Dialect, DialectError, RefusedPart, to_version_three};
 #[tactic(auto, using(crate::proofs::SearchLemmas::all_is_right, crate::proofs::SearchLemmas::is_found, crate::proofs::SearchLemmas::nothing_left, crate::proofs::SearchLemmas::none_passed, crate::proofs::SearchLemmas::has_passed_more))]
 pub fn first_refusal(
     alloc: Global,
-    finder: Finder<'_>,
+    parts: RefusedParts,
     dialect: Dialect,
     text: &str,
 ) -> Result<Option<RefusedPart>, AllocError>
-    ensures { IfOk result (spec.IsSearched finder.entry dialect text.now) }
+    ensures { IfOk result (spec.IsSearched parts dialect text.now) }
 {
     let mut rest = text;
     'parts: while !rest.is_empty() {
         let Some(refusal) = refusal_in(alloc, dialect, rest)? else {
             return Ok(None);
         };
-        if is_refused(finder, dialect, refusal.reason) {
+        if is_refused(parts, dialect, refusal.reason) {
             return Ok(Some(moved(text.len(), rest.len(), refusal)));
         }
         rest = after_sign(rest, refusal.index);

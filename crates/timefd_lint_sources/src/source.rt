@@ -14,7 +14,7 @@ use crate::reported::{FIRST_LINE, Finder, ItemEnd, Reported, Reporting, SourceTe
 use std::alloc::{AllocError, Global};
 use timefd_lint_drawing::{Counter, counted, none_counted};
 use timefd_lint_scan::keys::{DescriptionKey, FileFormat, Values, descriptions_by, values_by};
-use timefd_lint_scan::{Look, SourceDescription, descriptions_of, looked_at};
+use timefd_lint_scan::{Look, OwnCall, SourceDescription, descriptions_of, looked_at};
 
 /// What the linter reports about the descriptions of a source.
 #[derive(Drop)]
@@ -83,19 +83,19 @@ fn seen_first(alloc: Global, source: SourceText<'_>) -> Result<Seen, AllocError>
     ensures { IfOk result (λ seen. AreSeenFirst source.entry seen.descriptions.items seen.remarks.items) }
 {
     match source.finder {
-        Finder::Rust => Ok(seen_in_rust(alloc, source.text)?),
+        Finder::Rust(calls) => Ok(seen_in_rust(alloc, source.text, calls)?),
         Finder::Keys(format, keys) => Ok(seen_by_keys(alloc, format, source.text, keys)?),
     }
 }
 
-fn seen_in_rust(alloc: Global, source: &str) -> Result<Seen, AllocError>
-    ensures { IfOk result (λ seen. AreSeenIn source.now seen.descriptions.items seen.remarks.items) }
+fn seen_in_rust(alloc: Global, source: &str, own: &[OwnCall]) -> Result<Seen, AllocError>
+    ensures { IfOk result (λ seen. AreSeenIn source.now own.now seen.descriptions.items seen.remarks.items) }
 {
     let Look {
         descriptions,
         calls,
         comments,
-    } = looked_at(alloc, source)?;
+    } = looked_at(alloc, source, own)?;
     let remarks = remarks_on(alloc, &calls, &comments)?;
     Ok(Seen {
         descriptions,
@@ -175,7 +175,7 @@ pub fn descriptions_in(
     ensures in_order { IfOk result (λ found. AreInOrder 0 found.items) }
 {
     match source.finder {
-        Finder::Rust => Ok(descriptions_of(alloc, source.text)?),
+        Finder::Rust(calls) => Ok(descriptions_of(alloc, source.text, calls)?),
         Finder::Keys(format, keys) => Ok(descriptions_by(alloc, format, source.text, keys)?),
     }
 }

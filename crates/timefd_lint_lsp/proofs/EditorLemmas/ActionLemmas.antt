@@ -28,6 +28,7 @@ use Rattle.timefd_lint_sources.specs.declared.rewriting.change.Change.TheVariant
 use Rattle.timefd_lint_sources.specs.declared.rewriting.outcome.Outcome.{Outcome}
 use Rattle.timefd_lint_sources.specs.Rewriting.Written.{IsAnswer, items_of}
 use Rattle.timefd_lint_scan.specs.declared.description.SourceDescription.{SourceDescription}
+use Rattle.timefd_lint_scan.specs.declared.own_call.OwnCall.{OwnCall}
 use Rattle.timefd_lint_scan.specs.Found.{AllStandIn, AreDescriptionsOf, AreInOrder}
 
 pub same_text : (change : Change) (text : Text) (d : SourceDescription) (rewritten : NewParts) (before after : List Action)
@@ -110,11 +111,11 @@ pub within : (asked : WantedActions) (text : Text) (d : SourceDescription) (from
 within asked text d from to before after is added =
     wanted (AreOffers asked text d) (overlaps d.piece from to) before after is added
 
-pub by_rust : (s : SourceText) (asked : WantedActions) (from to : ℕ) (ds : List SourceDescription) (middle actions : List Action)
-    → s.finder ≡ Rust → AreDescriptionsOf s.text.now ds → AllStandIn s.text.now ds → AreInOrder 0 ds
+pub by_rust : (s : SourceText) (asked : WantedActions) (from to : ℕ) (calls : Bor (List OwnCall)) (ds : List SourceDescription)
+    (middle actions : List Action) → s.finder ≡ Rust calls → AreDescriptionsOf s.text.now calls.now ds → AllStandIn s.text.now ds → AreInOrder 0 ds
     → Adds (AreOf (AreActionsIn asked s.text.now from to) ds) [] middle
     → Adds (AreIf asked.fix_all (IsFixAll s.text.now ds)) middle actions → AreActionsOf asked from to s actions
-by_rust s asked from to ds middle actions is all stand in_order (each, offered, first) (fix_all, fixed, second) =
+by_rust s asked from to calls ds middle actions is all stand in_order (each, offered, first) (fix_all, fixed, second) =
     subst (λ f. AreActionsBy f asked from to s.text.now actions) (sym is) (record {
       descriptions = ds;
       all = all;

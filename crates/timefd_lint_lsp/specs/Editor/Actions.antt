@@ -21,6 +21,7 @@ use Rattle.timefd_lint_sources.specs.declared.rewriting.change.Change.TheVariant
 use Rattle.timefd_lint_sources.specs.Rewriting.Written.{IsAnswer, items_of}
 use Rattle.timefd_lint_scan.specs.declared.description.SourceDescription.{SourceDescription}
 use Rattle.timefd_lint_scan.specs.declared.piece.PlacedToken.{PlacedToken}
+use Rattle.timefd_lint_scan.specs.declared.own_call.OwnCall.{OwnCall}
 use Rattle.timefd_lint_scan.specs.Found.{AllStandIn, AreDescriptionsOf, AreInOrder}
 
 abbrev pub kind_of : Change → ActionKind
@@ -89,12 +90,12 @@ overlaps p from to = nat_le p.start to && nat_le from p.end
 abbrev pub AreActionsIn : WantedActions → Text → ℕ → ℕ → SourceDescription → List Action → Type 0
 AreActionsIn wanted text from to d actions = AreIf (overlaps d.piece from to) (AreOffers wanted text d) actions
 
--- What is wanted of all that can be done to the descriptions in a source of Rust that overlap or touch these
+-- What is wanted of all that can be done to the descriptions in a source of Rust, with these calls of its project, that overlap or touch these
 -- bytes, one after another; and then one action that fixes all descriptions, if it is wanted. Each description
 -- begins where the one before ends, or after that, so no edits overlap.
-pub record AreRustActions (wanted : WantedActions) (from to : ℕ) (text : Text) (actions : List Action) : Type 0 where
+pub record AreRustActions (own : List OwnCall) (wanted : WantedActions) (from to : ℕ) (text : Text) (actions : List Action) : Type 0 where
   pub descriptions : List SourceDescription
-  pub all : AreDescriptionsOf text descriptions
+  pub all : AreDescriptionsOf text own descriptions
   pub stand : AllStandIn text descriptions
   pub in_order : AreInOrder 0 descriptions
   pub each : List Action
@@ -104,7 +105,7 @@ pub record AreRustActions (wanted : WantedActions) (from to : ℕ) (text : Text)
   pub whole : actions ≡ each ++ fix_all
 
 abbrev pub AreActionsBy : Finder → WantedActions → ℕ → ℕ → Text → List Action → Type 0
-AreActionsBy Rust wanted from to text actions = AreRustActions wanted from to text actions
+AreActionsBy (Rust calls) wanted from to text actions = AreRustActions calls.now wanted from to text actions
 AreActionsBy (Keys format names) wanted from to text actions = actions ≡ []
 
 -- In a file with keys nothing is offered.

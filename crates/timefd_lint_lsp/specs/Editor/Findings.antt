@@ -1,8 +1,7 @@
 -- All that is wrong in a document.
-use Rattle.std.specs.Prelude.{◌≡◌, ◌⊎◌, Bool, true, false, List, [], ◌++◌, Option, Some, None, IsUtf8, is_some, ◌∷◌, flat_map, if◌then◌else◌}
+use Rattle.std.specs.Prelude.{◌≡◌, ◌⊎◌, Bool, true, false, List, [], ◌++◌, Option, IsUtf8, ◌∷◌, flat_map, if◌then◌else◌}
 use Rattle.timefd_lang_component.specs.Tree.{Text}
 use Rattle.timefd_lint_diagnosis.specs.declared.diagnostic.Diagnostic.{Diagnostic}
-use Rattle.timefd_lang_dialect.specs.declared.dialect.Dialect as other
 use Rattle.timefd_lint_drawing.specs.HelpText.{help_text}
 use Rattle.timefd_lint_drawing.specs.Sarif.{with_help}
 use Rattle.timefd_lang_fault.specs.Codes.{code_of, name_of}
@@ -11,16 +10,17 @@ use Rattle.timefd_lint_lsp.specs.declared.editor.finding.Finding.{Finding}
 use Rattle.timefd_lint_lsp.specs.declared.editor.finding.Severity.TheVariants.{Error}
 use Rattle.timefd_lint_lsp.specs.Editor.Each.{AreOf}
 use Rattle.timefd_lint_lsp.specs.Editor.Finding.{AreWarnings, IsNote, IsOne}
-use Rattle.timefd_lint_lsp.specs.Editor.Others.{AreOnOther}
+use Rattle.timefd_lint_lsp.specs.Editor.Others.{IsRefusal, IsTrap}
 use Rattle.timefd_lint_lsp.specs.Editor.Remarked.{IsRemarked}
 use Rattle.timefd_lang_fault.specs.Faults.{fault_of}
-use Rattle.timefd_lint_sources.specs.declared.reported.ItemEnd.{ItemEnd}
-use Rattle.timefd_lint_sources.specs.declared.reported.ItemEnd.TheVariants.{PassedOver, Accepted, Converted, Refused, NotText, Allowed, UnreadCall, UnreadValue, WrongComment}
+use Rattle.timefd_lint_sources.specs.declared.verdict.TextVerdict.{TextVerdict}
+use Rattle.timefd_lint_sources.specs.declared.verdict.TextVerdict.TheVariants.{Accepted, Faulty, Right, Refused}
 use Rattle.timefd_lint_sources.specs.declared.reported.Finder.{Finder}
 use Rattle.timefd_lint_sources.specs.declared.reported.SourceText.{SourceText}
 use Rattle.timefd_lint_sources.specs.Allowances.Found.{AreAllowances}
 use Rattle.timefd_lint_sources.specs.Allowed.{is_allowed}
-use Rattle.timefd_lint_sources.specs.Judged.{AreDiagnosedOf, IsJudged, language_in, other_of, text_of}
+use Rattle.timefd_lint_sources.specs.Judged.{text_of}
+use Rattle.timefd_lint_sources.specs.Verdicts.{IsVerdict, levels_of, place_of}
 use Rattle.timefd_lint_sources.specs.declared.remark.Remark.{Remark}
 use Rattle.timefd_lint_sources.specs.Reported.{AreJudgedIn, AreRemarksOn}
 use Rattle.timefd_lint_scan.specs.declared.description.SourceDescription.{SourceDescription}
@@ -38,37 +38,24 @@ IsFault text d further g found =
     (name_of (code_of (fault_of g.fault).kind)) (fault_words further g) found
 
 -- the first fault, followed by the further ones
-abbrev pub AreFaults : Text → SourceDescription → Diagnostic → List Diagnostic → List Finding → Type 0
-AreFaults text d g further found = (one : List Finding) × (rest : List Finding)
+abbrev pub AreFaults : Text → SourceDescription → List Diagnostic → List Finding → Type 0
+AreFaults text d [] found = found ≡ []
+AreFaults text d (g ∷ further) found = (one : List Finding) × (rest : List Finding)
     × IsFault text d false g one × AreOf (IsFault text d true) further rest × (found ≡ one ++ rest)
 
--- What is wrong with a description of `time`, by how its check ended.
-abbrev pub AreBy : Text → SourceDescription → ItemEnd → List Finding → Type 0
-AreBy text d PassedOver found = ⊥
-AreBy text d (Accepted warned) found = AreWarnings text d warned found
-AreBy text d (Converted count) found = ⊥
-AreBy text d Refused found = (g : Diagnostic) × (further : List Diagnostic)
-    × AreDiagnosedOf d g further × AreFaults text d g further found
-AreBy text d NotText found = IsNote text d found
-AreBy text d (Allowed left) found = ⊥
-AreBy text d UnreadCall found = ⊥
-AreBy text d UnreadValue found = ⊥
-AreBy text d WrongComment found = ⊥
+-- What is wrong with a description, in the order in which it is reported.
+abbrev pub AreBy : Text → SourceDescription → TextVerdict → List Finding → Type 0
+AreBy text d (Accepted language warned) found = AreWarnings text d (levels_of warned) found
+AreBy text d (Faulty faults) found = AreFaults text d faults.items found
+AreBy text d (Right traps) found = AreOf (IsTrap text d) traps.items found
+AreBy text d (Refused part) found = IsRefusal text d part found
 
-pub record AreOnOwn (levels : Option Levels) (text : Text) (d : SourceDescription) (found : List Finding) : Type 0 where
-  pub end : ItemEnd
-  pub is : IsJudged levels (language_in d) (text_of d) end
-  pub reported : AreBy text d end found
-
--- What is wrong with a description of `time`, or with a format of another language or library.
-abbrev pub AreOnIn : Option other.Dialect → Option Levels → Finder → Text → SourceDescription → List Finding → Type 0
-AreOnIn None levels finder text d found = AreOnOwn levels text d found
-AreOnIn (Some dialect) levels finder text d found =
-    (IsUtf8 (text_of d) × AreOnOther finder (is_some levels) text d dialect found)
-    ⊎ ((¬ IsUtf8 (text_of d)) × IsNote text d found)
-
+-- What is wrong with a description where it stands, if it is UTF-8.
 abbrev pub AreOn : Option Levels → Finder → Text → SourceDescription → List Finding → Type 0
-AreOn levels finder text d found = AreOnIn (other_of d.dialect) levels finder text d found
+AreOn levels finder text d found =
+    (IsUtf8 (text_of d) × ((verdict : TextVerdict) × IsVerdict (place_of finder d) levels (text_of d) verdict
+    × AreBy text d verdict found))
+    ⊎ ((¬ IsUtf8 (text_of d)) × IsNote text d found)
 
 -- a finding, unless a comment allows its code
 abbrev pub unless_allowed : SourceText → SourceDescription → Finding → List Finding

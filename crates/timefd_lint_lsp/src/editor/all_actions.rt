@@ -36,8 +36,8 @@ pub fn actions(
     let mut actions = Vec::new(alloc);
     match source.finder {
         Finder::Keys(_, _) => Ok(actions),
-        Finder::Rust => {
-            let descriptions = descriptions_of(alloc, source.text)?;
+        Finder::Rust(calls) => {
+            let descriptions = descriptions_of(alloc, source.text, calls)?;
             let bytes = (start, end);
             push_all(
                 alloc,

@@ -2,26 +2,25 @@
 
 ghost use Rattle.std.specs.Prelude.{◌≡◌, ◌++◌, IfOk, OnOk, flat_map};
 ghost use Rattle.timefd_lint_lsp.specs.Editor.Each.{Adds, AreOf};
-ghost use Rattle.timefd_lint_lsp.specs.Editor.Findings.{AreFindingsLeft, AreFindingsOf, AreLeftOn, AreOn, AreOnOwn, unless_allowed};
+ghost use Rattle.timefd_lint_lsp.specs.Editor.Findings.{AreBy, AreFindingsLeft, AreFindingsOf, AreLeftOn, AreOn, unless_allowed};
 ghost use Rattle.timefd_lint_lsp.specs.Editor.Positions.{IsCounted};
 ghost use Rattle.timefd_lint_sources.specs.Judged.{text_of};
 
 use crate::editor::counter::{counted, none_counted};
 use crate::editor::faults::push_faults;
 use crate::editor::finding::{DocumentSpot, Finding};
-use crate::editor::other::push_other;
+use crate::editor::other::{push_refusal, push_traps};
 use crate::editor::remarked::push_remarks;
 use crate::editor::warned::{push_note, push_warnings};
 use std::alloc::{AllocError, Global};
 use std::str;
 use timefd_lang_warnings::Levels;
-use timefd_lint_diagnosis::diagnose;
 use timefd_lint_scan::SourceDescription;
 use timefd_lint_sources::allowances::allowances_in;
 use timefd_lint_sources::{
-    Finder, Judged, SourceText, further_of, is_allowed, judged_with_remarks, language_of, other_of,
+    Finder, Judged, SourceText, TextVerdict, is_allowed, judge, judged_with_remarks, levels_of,
+    place_of,
 };
-use timefd_lint_warnings::found_by;
 
 /// All that is wrong in a source, in order: the first fault of each description that its language refuses,
 /// its further faults, a description that isn't UTF-8, and the warnings that `levels` asks for. Of a format of another
@@ -159,7 +158,7 @@ fn push_on(
 }
 
 // Adds what is wrong with a description that has this text.
-#[tactic(auto, using(crate::proofs::EditorLemmas::FindingLemmas::as_own, crate::proofs::EditorLemmas::FindingLemmas::as_other))]
+#[tactic(auto, using(crate::proofs::EditorLemmas::FindingLemmas::with_verdict))]
 fn push_judged(
     alloc: Global,
     finder: Finder<'_>,
@@ -173,35 +172,26 @@ fn push_judged(
     ensures { OnOk result (Adds (AreOn levels finder.entry spot.entry.text.now spot.entry.description.now)
         found.old.items found.new.items) }
 {
-    let reports_traps = levels.is_some();
-    match other_of(spot.description.dialect) {
-        Some(dialect) => push_other(alloc, finder, spot, reports_traps, dialect, text, found),
-        None => push_own(alloc, spot, levels, text, found),
-    }
+    let place = place_of(finder, spot.description);
+    let verdict = judge(alloc, place, levels, text)?;
+    push_verdict(alloc, spot, &verdict, found)
 }
 
-// Adds what is wrong with a description of `time` that has this text.
-fn push_own(
+// Adds what is wrong with a description.
+fn push_verdict(
     alloc: Global,
     spot: DocumentSpot<'_>,
-    levels: Option<Levels>,
-    text: &str,
+    verdict: &TextVerdict,
     found: &mut Vec<Finding>,
 ) -> Result<(), AllocError>
-    requires counted { IsCounted spot.text.now spot.counter }
-    requires text { text.now ≡ text_of spot.description.now }
-    ensures { OnOk result (Adds (AreOnOwn levels spot.entry.text.now spot.entry.description.now)
+    requires { IsCounted spot.text.now spot.counter }
+    ensures { OnOk result (Adds (AreBy spot.entry.text.now spot.entry.description.now verdict.now)
         found.old.items found.new.items) }
 {
-    let language = language_of(spot.description.dialect);
-    match diagnose(alloc, language, text)? {
-        None => {
-            let warned = found_by(alloc, levels, language, text)?;
-            push_warnings(alloc, spot, warned, found)
-        }
-        Some(diagnostic) => {
-            let further = further_of(alloc, spot.description, text, &diagnostic)?;
-            push_faults(alloc, spot, &diagnostic, &further, found)
-        }
+    match verdict {
+        TextVerdict::Accepted(_, warned) => push_warnings(alloc, spot, levels_of(*warned), found),
+        TextVerdict::Faulty(faults) => push_faults(alloc, spot, faults, found),
+        TextVerdict::Right(traps) => push_traps(alloc, spot, traps, found),
+        TextVerdict::Refused(part) => push_refusal(alloc, spot, *part, found),
     }
 }

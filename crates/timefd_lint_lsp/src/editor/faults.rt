@@ -13,19 +13,22 @@ use timefd_lint_drawing::reported_sentence;
 use timefd_lint_drawing::sarif::with_help;
 use timefd_lint_scan::index_in_source;
 
-/// Adds the first fault of a description, and then its further ones. An `Err` says that memory ran out.
+/// Adds the first one of these faults of a description, and then its further ones. An `Err` says that memory ran out.
+#[tactic(auto, using(crate::proofs::EditorLemmas::FindingLemmas::no_faults))]
 pub fn push_faults(
     alloc: Global,
     spot: DocumentSpot<'_>,
-    diagnostic: &Diagnostic,
-    further: &[Diagnostic],
+    faults: &[Diagnostic],
     found: &mut Vec<Finding>,
 ) -> Result<(), AllocError>
     requires { IsCounted spot.text.now spot.counter }
-    ensures { OnOk result (Adds (AreFaults spot.entry.text.now spot.entry.description.now diagnostic.now further.now)
+    ensures { OnOk result (Adds (AreFaults spot.entry.text.now spot.entry.description.now faults.now)
         found.old.items found.new.items) }
 {
-    push_fault(alloc, spot, false, diagnostic, found)?;
+    let [first, further @ ..] = faults else {
+        return Ok(());
+    };
+    push_fault(alloc, spot, false, first, found)?;
     push_further(alloc, spot, further, found)
 }
 

@@ -4,43 +4,19 @@ ghost use Rattle.std.specs.Prelude.{◌≡◌, IfOk, OnOk, string_bytes};
 ghost use Rattle.timefd_lang_dialect.specs.Reasons as reasons;
 ghost use Rattle.timefd_lang_dialect.specs.TrapWords as trap_words;
 ghost use Rattle.timefd_lint_drawing.specs.Sarif.{with_help as helped};
-ghost use Rattle.timefd_lint_sources.specs.Judged.{text_of};
-ghost use Rattle.timefd_lint_lsp.specs.Editor.Each.{Adds, AreIf, AreOf};
-ghost use Rattle.timefd_lint_lsp.specs.Editor.Others.{AreOnOther, AreTrapsOf, IsRefusal, IsTrap};
+ghost use Rattle.timefd_lint_lsp.specs.Editor.Each.{Adds, AreOf};
+ghost use Rattle.timefd_lint_lsp.specs.Editor.Others.{IsRefusal, IsTrap};
 ghost use Rattle.timefd_lint_lsp.specs.Editor.Positions.{IsCounted};
 
 use crate::editor::finding::{DocumentSpot, Finding, Severity, push};
 use std::alloc::{AllocError, Global};
-use timefd_lang_dialect::{Dialect, Found, RefusedPart, traps};
+use timefd_lang_dialect::{Found, RefusedPart};
 use timefd_lint_drawing::sarif::with_help;
 use timefd_lint_scan::index_in_source;
-use timefd_lint_sources::{Finder, first_refusal};
 
-/// Adds the first part of a format that is refused where the format stands, or else its traps, if they are asked for. An
-/// `Err` says that memory ran out.
-#[tactic(auto, using(crate::proofs::EditorLemmas::OtherLemmas::has_refusal, crate::proofs::EditorLemmas::OtherLemmas::is_right))]
-pub fn push_other(
-    alloc: Global,
-    finder: Finder<'_>,
-    spot: DocumentSpot<'_>,
-    reports_traps: bool,
-    dialect: Dialect,
-    text: &str,
-    found: &mut Vec<Finding>,
-) -> Result<(), AllocError>
-    requires counted { IsCounted spot.text.now spot.counter }
-    requires text { text.now ≡ text_of spot.description.now }
-    ensures { OnOk result (Adds (AreOnOther finder.entry reports_traps spot.entry.text.now
-        spot.entry.description.now dialect) found.old.items found.new.items) }
-{
-    match first_refusal(alloc, finder, dialect, text)? {
-        Some(refusal) => push_refusal(alloc, spot, refusal, found),
-        None => push_trapped(alloc, spot, reports_traps, dialect, text, found),
-    }
-}
-
-// Adds a part that is refused. Where it ends isn't known, so the finding is where it begins.
-fn push_refusal(
+/// Adds a part that is refused. Where it ends isn't known, so the finding is where it begins. An `Err` says that memory ran
+/// out.
+pub fn push_refusal(
     alloc: Global,
     spot: DocumentSpot<'_>,
     refusal: RefusedPart,
@@ -62,30 +38,9 @@ fn words_of_refusal(alloc: Global, refusal: RefusedPart) -> Result<String, Alloc
     with_help(alloc, refusal.reason.sentence(), refusal.reason.cure())
 }
 
-// Adds the traps of a format, if they are asked for.
-#[tactic(auto, using(crate::proofs::EditorLemmas::EachLemmas::unwanted, crate::proofs::EditorLemmas::OtherLemmas::are_wanted))]
-fn push_trapped(
-    alloc: Global,
-    spot: DocumentSpot<'_>,
-    reports_traps: bool,
-    dialect: Dialect,
-    text: &str,
-    found: &mut Vec<Finding>,
-) -> Result<(), AllocError>
-    requires counted { IsCounted spot.text.now spot.counter }
-    requires text { text.now ≡ text_of spot.description.now }
-    ensures { OnOk result (Adds (AreIf reports_traps (AreTrapsOf spot.entry.text.now spot.entry.description.now
-        dialect)) found.old.items found.new.items) }
-{
-    if !reports_traps {
-        return Ok(());
-    }
-    let all = traps(alloc, dialect, text)?;
-    push_traps(alloc, spot, &all, found)
-}
-
+/// Adds these traps of a format. An `Err` says that memory ran out.
 #[tactic(auto, using(crate::proofs::EditorLemmas::EachLemmas::at_first, crate::proofs::EditorLemmas::EachLemmas::one_more_at, crate::proofs::EditorLemmas::EachLemmas::at_last))]
-fn push_traps(
+pub fn push_traps(
     alloc: Global,
     spot: DocumentSpot<'_>,
     all: &[Found],

@@ -12,7 +12,8 @@ use Rattle.timefd_lint_options.specs.declared.config.config.Config.{Config}
 use Rattle.timefd_lint_options.specs.declared.config.keys.OwnedKey.{OwnedKey}
 use Rattle.timefd_lint_options.specs.declared.config.language.ValueFault.{ValueFault}
 use Rattle.timefd_lint_options.specs.declared.config.language.ValueFault.TheVariants as no_language
-use Rattle.timefd_lint_options.specs.Config.Faults.{Fault, NotToml, UnknownName, KeysNotATable, EmptyName, WrongType, UnknownLanguage, NotAList, NotAPattern, LevelsNotATable}
+use Rattle.timefd_lint_options.specs.Config.Faults.{Fault, NotToml, UnknownName, KeysNotATable, EmptyName, WrongType, UnknownLanguage, NotAList, NotAPattern, LevelsNotATable, CallsNotATable}
+use Rattle.timefd_lint_options.specs.Config.Calls.{Called, called_all, calls_in}
 use Rattle.timefd_lint_options.specs.Config.Levels.{Levels, levels_in}
 
 -- a key by the bytes of its name
@@ -69,7 +70,8 @@ keys_in (member name value rest) = with_key (key_of name value) (keys_in rest)
 
 abbrev pub is_known : Text → Bool
 is_known name =
-    bytes_eq name (codes "keys") || (bytes_eq name (codes "exclude") || bytes_eq name (codes "levels"))
+    bytes_eq name (codes "keys")
+    || (bytes_eq name (codes "exclude") || (bytes_eq name (codes "levels") || bytes_eq name (codes "calls")))
 
 -- the first name that has no meaning here
 abbrev pub unknown_name : Members → Option Text
@@ -139,34 +141,49 @@ levels_at (Some (boolean value)) = Err LevelsNotATable
 levels_at (Some (datetime value)) = Err LevelsNotATable
 levels_at (Some (array items)) = Err LevelsNotATable
 
--- what a file says: keys, the patterns of what is passed over, a line each, and the levels of warnings
+abbrev pub calls_at : Option Data → Result (List Called) Fault
+calls_at None = Ok []
+calls_at (Some (table rows)) = calls_in rows
+calls_at (Some (string word)) = Err CallsNotATable
+calls_at (Some (integer number)) = Err CallsNotATable
+calls_at (Some (float number)) = Err CallsNotATable
+calls_at (Some (boolean value)) = Err CallsNotATable
+calls_at (Some (datetime value)) = Err CallsNotATable
+calls_at (Some (array items)) = Err CallsNotATable
+
+-- what a file says: keys, the patterns of what is passed over, a line each, the levels of warnings, and calls
 pub record Said : Type 0 where
   pub keys : List Named
   pub exclude : Text
   pub levels : Option Levels
+  pub calls : List Called
 
 abbrev pub said : Config → Said
 said config = record {
   keys = named_all config.keys.items;
   exclude = string_bytes config.exclude;
   levels = config.levels;
+  calls = called_all config.calls.items;
 }
 
-abbrev pub all_said : Result (List Named) Fault → Result Text Fault → Result (Option Levels) Fault → Result Said Fault
-all_said (Err fault) exclude levels = Err fault
-all_said (Ok keys) (Err fault) levels = Err fault
-all_said (Ok keys) (Ok exclude) (Err fault) = Err fault
-all_said (Ok keys) (Ok exclude) (Ok levels) = Ok (record { keys = keys; exclude = exclude; levels = levels })
+abbrev pub all_said : Result (List Named) Fault → Result Text Fault → Result (Option Levels) Fault
+    → Result (List Called) Fault → Result Said Fault
+all_said (Err fault) exclude levels calls = Err fault
+all_said (Ok keys) (Err fault) levels calls = Err fault
+all_said (Ok keys) (Ok exclude) (Err fault) calls = Err fault
+all_said (Ok keys) (Ok exclude) (Ok levels) (Err fault) = Err fault
+all_said (Ok keys) (Ok exclude) (Ok levels) (Ok calls) =
+    Ok (record { keys = keys; exclude = exclude; levels = levels; calls = calls })
 
 abbrev pub unless_unknown : Option Text → Result Said Fault → Result Said Fault
 unless_unknown (Some name) config = Err (UnknownName name)
 unless_unknown None config = config
 
--- What a document says: it has the tables `keys` and `levels` and the list `exclude`, or some of them, or nothing.
+-- What a document says: it has the tables `keys`, `levels` and `calls` and the list `exclude`, or some of them, or nothing.
 abbrev pub config_of_document : Members → Result Said Fault
 config_of_document document = unless_unknown (unknown_name document)
     (all_said (keys_at (get_member (codes "keys") document)) (exclude_at (get_member (codes "exclude") document))
-    (levels_at (get_member (codes "levels") document)))
+    (levels_at (get_member (codes "levels") document)) (calls_at (get_member (codes "calls") document)))
 
 abbrev pub config_of_parsed : Option Members → Result Said Fault
 config_of_parsed (Some document) = config_of_document document

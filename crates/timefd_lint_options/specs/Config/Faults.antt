@@ -19,6 +19,11 @@ pub data Fault : Type 0 where
   UnknownWarning : Text → Fault
   NoLevel : Warning → Fault
   UnknownLevel : Warning → Text → Fault
+  CallsNotATable : Fault
+  NotACall : Text → Fault
+  NoArgument : Text → Fault
+  UnknownCallLanguage : Text → Fault
+  NoNumber : Text → Fault
 
 -- what an error says about the text: nothing if memory ran out
 abbrev pub fault : ConfigError → Option Fault
@@ -35,3 +40,8 @@ fault error.LevelsNotATable = Some LevelsNotATable
 fault (error.UnknownWarning name) = Some (UnknownWarning (string_bytes name))
 fault (error.NoLevel warning) = Some (NoLevel warning)
 fault (error.UnknownLevel warning word) = Some (UnknownLevel warning (string_bytes word))
+fault error.CallsNotATable = Some CallsNotATable
+fault (error.NotACall key) = Some (NotACall (string_bytes key))
+fault (error.NoArgument key) = Some (NoArgument (string_bytes key))
+fault (error.UnknownCallLanguage key) = Some (UnknownCallLanguage (string_bytes key))
+fault (error.NoNumber key) = Some (NoNumber (string_bytes key))

@@ -3,21 +3,26 @@
 ghost use Rattle.std.specs.Prelude.{◌≡◌, IfOk, IfErr, IfSome, Ok, Err, codes, option_map, string_bytes};
 ghost use Rattle.toml.specs.Data.{get_member};
 ghost use Rattle.toml.specs.View.{view, table_view};
+ghost use Rattle.timefd_lint_options.specs.Config.Calls as called;
 ghost use Rattle.timefd_lint_options.specs.Config.Config as spec;
 ghost use Rattle.timefd_lint_options.specs.Config.Faults as faults;
 
+use crate::config::calls::calls_in;
 use crate::config::error::ConfigError;
 use crate::config::exclude::patterns_in;
 use crate::config::keys::{OwnedKey, keys_in};
 use crate::config::levels::levels_in;
 use std::alloc::Global;
 use timefd_lang_warnings::Levels;
+use timefd_lint_scan::OwnCall;
 use toml::{Table, Value, table_from_str};
 
 // The tables of the file.
 const KEYS: &str = "keys";
 
 const LEVELS: &str = "levels";
+
+const CALLS: &str = "calls";
 
 // The one list.
 const EXCLUDE: &str = "exclude";
@@ -31,12 +36,14 @@ pub struct Config {
     pub exclude: String,
     /// The level of each warning, if there is a table `levels`.
     pub levels: Option<Levels>,
+    /// The calls of its table `calls`, sorted by key.
+    pub calls: Vec<OwnCall>,
 }
 
 fn is_known(name: &str) -> bool
     ensures { result ≡ spec.is_known name.now }
 {
-    name == KEYS || name == EXCLUDE || name == LEVELS
+    name == KEYS || name == EXCLUDE || name == LEVELS || name == CALLS
 }
 
 // The first name in a document that has no meaning here.
@@ -135,6 +142,34 @@ fn levels_at(value: Option<&Value>) -> Result<Option<Levels>, ConfigError>
     }
 }
 
+// The value of `calls` in a document.
+fn value_of_calls(document: &Table) -> Option<&Value>
+    ensures { option_map (λ v. view v.now) result ≡ get_member (codes "calls") (table_view document.now) }
+{
+    document.get(CALLS)
+}
+
+// The calls in that value, or none if there is no value.
+fn calls_at(alloc: Global, value: Option<&Value>) -> Result<Vec<OwnCall>, ConfigError>
+    ensures calls { IfOk result (λ calls.
+        spec.calls_at (option_map (λ v. view v.now) value.entry) ≡ Ok (called.called_all calls.items)) }
+    ensures error { IfErr result (λ error. IfSome (faults.fault error) (λ fault.
+        spec.calls_at (option_map (λ v. view v.now) value.entry) ≡ Err fault)) }
+{
+    match value {
+        Some(Value::Table(table)) => calls_in(alloc, table),
+        Some(
+            Value::String(_)
+            | Value::Integer(_)
+            | Value::Float(_)
+            | Value::Boolean(_)
+            | Value::Datetime(_)
+            | Value::Array(_),
+        ) => Err(ConfigError::CallsNotATable),
+        None => Ok(Vec::new(alloc)),
+    }
+}
+
 // What a document says.
 fn config_of_document(alloc: Global, document: &Table) -> Result<Config, ConfigError>
     ensures config { IfOk result (λ config.
@@ -148,10 +183,12 @@ fn config_of_document(alloc: Global, document: &Table) -> Result<Config, ConfigE
     let keys = keys_at(alloc, value_of_keys(document))?;
     let exclude = exclude_at(alloc, value_of_exclude(document))?;
     let levels = levels_at(value_of_levels(document))?;
+    let calls = calls_at(alloc, value_of_calls(document))?;
     Ok(Config {
         keys,
         exclude,
         levels,
+        calls,
     })
 }
 

@@ -36,6 +36,16 @@ pub enum ConfigError {
     NoLevel(Warning),
     /// The level of this warning is a string, but this one names no level.
     UnknownLevel(Warning, String),
+    /// `calls` isn't a table.
+    CallsNotATable,
+    /// This key of `calls` isn't the name of a call.
+    NotACall(String),
+    /// The value of the call with this key isn't a string with a colon.
+    NoArgument(String),
+    /// What precedes the colon in the value of the call with this key isn't a language.
+    UnknownCallLanguage(String),
+    /// What follows the colon in the value of the call with this key isn't a number with one digit.
+    NoNumber(String),
 }
 
 impl From<AllocError> for ConfigError {

@@ -20,10 +20,14 @@ abbrev pub in_tokens : Text → List PlacedToken → List Allowance
 in_tokens source [] = []
 in_tokens source (p ∷ ps) = in_token source p ++ in_tokens source ps
 
--- In Rust the comments are tokens, so no text in a string is one. In a file with keys each line may end with one.
-abbrev pub AreBy : Finder → Text → List Allowance → Type 0
-AreBy Rust source found =
+-- In Rust the comments are tokens, so no text in a string is one.
+abbrev pub AreByRust : Text → List Allowance → Type 0
+AreByRust source found =
     (ps : List PlacedToken) × AreTokens (length source) source ps × (found ≡ in_tokens source ps)
+
+-- In a file with keys each line may end with one.
+abbrev pub AreBy : Finder → Text → List Allowance → Type 0
+AreBy (Rust calls) source found = AreByRust source found
 AreBy (Keys format names) source found = found ≡ in_lines format source line_feed source
 
 -- Nothing is allowed in a source without `timefd:`.

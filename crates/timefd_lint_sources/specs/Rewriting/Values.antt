@@ -146,5 +146,5 @@ pub record Adds (change : Change) (format : FileFormat) (source : Text) (d : Sou
 
 -- What is found in a source, rewritten: the literals of Rust, or the values of keys.
 abbrev pub IsFoundRewritten : Change → Finder → Text → NewSource → Type 0
-IsFoundRewritten change Rust source new = IsSourceRewritten change source new
+IsFoundRewritten change (Rust calls) source new = IsSourceRewritten change source calls.now new
 IsFoundRewritten change (Keys format keys) source new = AreValuesRewritten change format source keys.now new

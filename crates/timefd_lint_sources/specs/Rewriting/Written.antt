@@ -8,6 +8,7 @@ use Rattle.timefd_language.specs.declared.description_version.DescriptionVersion
 use Rattle.timefd_lint_rewrite.specs.declared.layout.Layout.{Layout}
 use Rattle.timefd_lint_rewrite.specs.Layouts.{IsConverted, IsRefusedFor}
 use Rattle.timefd_lint_scan.specs.declared.description.SourceDescription.{SourceDescription}
+use Rattle.timefd_lint_scan.specs.declared.own_call.OwnCall.{OwnCall}
 use Rattle.timefd_lint_scan.specs.declared.version.VersionPosition.{VersionPosition}
 use Rattle.timefd_lint_scan.specs.declared.version.VersionPosition.TheVariants.{Digit, Unsaid, Call, Elsewhere}
 use Rattle.timefd_lint_scan.specs.Found.{AllStandIn, AreDescriptionsOf, AreInOrder}
@@ -210,10 +211,10 @@ AreRewritten change source from (d ∷ ds) (o ∷ os) new = (digit : Option ℕ)
     × IsOutcome change source d o digit body × IsPlaced source from d o digit body front next
     × AreRewritten change source next ds os rest × (new ≡ front ++ rest)
 
--- A source whose descriptions are all rewritten. They are in it one after another.
-pub record IsSourceRewritten (change : Change) (source : Text) (new : NewSource) : Type 0 where
+-- A source with these calls of its project, whose descriptions are all rewritten. They are in it one after another.
+pub record IsSourceRewritten (change : Change) (source : Text) (own : List OwnCall) (new : NewSource) : Type 0 where
   pub descriptions : List SourceDescription
-  pub all : AreDescriptionsOf source descriptions
+  pub all : AreDescriptionsOf source own descriptions
   pub stand : AllStandIn source descriptions
   pub in_order : AreInOrder 0 descriptions
   pub rewritten : AreRewritten change source 0 descriptions new.outcomes.items new.bytes.items

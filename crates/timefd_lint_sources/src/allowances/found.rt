@@ -35,7 +35,7 @@ pub fn allowances_in(
         return Ok(Vec::new(alloc));
     }
     match finder {
-        Finder::Rust => allowances_of_rust(alloc, source),
+        Finder::Rust(_calls) => allowances_of_rust(alloc, source),
         Finder::Keys(format, _keys) => allowances_of_keys(alloc, format, source.as_bytes()),
     }
 }

@@ -2,7 +2,6 @@
 
 ghost use Rattle.std.specs.Prelude.{◌≡◌, ◌++◌, IfOk, OnOk};
 ghost use Rattle.timefd_lint_scan.specs.Marks as marks;
-ghost use Rattle.timefd_lint_sources.specs.declared.reported.Finder.TheVariants as finders;
 ghost use Rattle.timefd_lint_sources.specs.Allowances.Found as spec;
 
 use crate::allowances::comment::{Allowance, CommentSign, push_allowed};
@@ -57,7 +56,7 @@ fn push_tokens(
 /// What the comments in a source of Rust allow, in order. Only its comments are kept in memory. An `Err` says that memory
 /// ran out.
 pub fn allowances_of_rust(alloc: Global, source: &str) -> Result<Vec<Allowance>, AllocError>
-    ensures { IfOk result (λ found. spec.AreBy finders.Rust source.now found.items) }
+    ensures { IfOk result (λ found. spec.AreByRust source.now found.items) }
 {
     let comments = comments_of(alloc, source)?;
     let mut found = Vec::new(alloc);

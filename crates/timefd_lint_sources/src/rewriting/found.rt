@@ -19,7 +19,7 @@ pub fn rewrite_found(
     ensures { IfOk result (IsFoundRewritten change source.entry.finder source.entry.text.now) }
 {
     match source.finder {
-        Finder::Rust => rewrite_source(alloc, change, source.text),
+        Finder::Rust(calls) => rewrite_source(alloc, change, source.text, calls),
         Finder::Keys(format, keys) => rewrite_values(alloc, change, format, source.text, keys),
     }
 }

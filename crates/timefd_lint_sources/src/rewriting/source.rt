@@ -8,7 +8,9 @@ use crate::rewriting::answer::{Answer, NewParts, answer_to};
 use crate::rewriting::change::Change;
 use crate::rewriting::outcome::Outcome;
 use std::alloc::{AllocError, Global};
-use timefd_lint_scan::{SourceDescription, VersionPosition, body_end, descriptions_of, inside};
+use timefd_lint_scan::{
+    OwnCall, SourceDescription, VersionPosition, body_end, descriptions_of, inside,
+};
 
 /// A source whose descriptions are rewritten.
 #[derive(Drop)]
@@ -19,13 +21,18 @@ pub struct NewSource {
     pub bytes: Vec<u8>,
 }
 
-/// Fixes or converts the descriptions in a Rust source, each in its language. Of those that change, it
+/// Fixes or converts the descriptions in a Rust source with these calls of its project, each in its language. Of those that change, it
 /// rewrites what is between the quotes, and the numbers of their versions. An `Err` says that memory ran
 /// out.
-pub fn rewrite_source(alloc: Global, change: Change, source: &str) -> Result<NewSource, AllocError>
-    ensures { IfOk result (IsSourceRewritten change source.now) }
+pub fn rewrite_source(
+    alloc: Global,
+    change: Change,
+    source: &str,
+    own: &[OwnCall],
+) -> Result<NewSource, AllocError>
+    ensures { IfOk result (IsSourceRewritten change source.now own.now) }
 {
-    let descriptions = descriptions_of(alloc, source)?;
+    let descriptions = descriptions_of(alloc, source, own)?;
     rewrite_all(alloc, change, source, &descriptions)
 }
 

@@ -70,7 +70,7 @@ pub fn body(alloc: Global, fields: &[&str]) -> Result<String, RowFault> {
 }
 
 fn first_alike(alloc: Global, source: &str, text: &str) -> Result<Option<Vec<u8>>, AllocError> {
-    match descriptions_of(alloc, source)?.first() {
+    match descriptions_of(alloc, source, &[])?.first() {
         Some(description) => body_alike(alloc, source, description, text.as_bytes()),
         None => Ok(None),
     }

@@ -39,7 +39,7 @@ pub fn mended(alloc: Global, fields: &[&str]) -> Result<String, RowFault> {
 /// The new source that the fields ask for.
 fn new_source(alloc: Global, fields: &[&str]) -> Result<NewSource, RowFault> {
     let (change, source) = two(fields, "CHANGE SOURCE")?;
-    Ok(rewrite_source(alloc, change_of(change)?, source)?)
+    Ok(rewrite_source(alloc, change_of(change)?, source, &[])?)
 }
 
 /// How many descriptions are rewritten, how many are refused, and the new source.

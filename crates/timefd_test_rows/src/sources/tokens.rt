@@ -43,7 +43,7 @@ pub fn tokens(alloc: Global, source: &str) -> Result<String, RowFault> {
 
 /// The descriptions of a source, each as its language and its text, between bars.
 pub fn descriptions(alloc: Global, source: &str) -> Result<String, RowFault> {
-    Ok(all_shown(alloc, &descriptions_of(alloc, source)?)?)
+    Ok(all_shown(alloc, &descriptions_of(alloc, source, &[])?)?)
 }
 
 fn position_mark(alloc: Global, version: VersionPosition) -> Result<String, AllocError> {
@@ -59,7 +59,7 @@ fn position_mark(alloc: Global, version: VersionPosition) -> Result<String, Allo
 /// bars.
 pub fn versions(alloc: Global, source: &str) -> Result<String, RowFault> {
     let mut shown = String::new(alloc);
-    for description in &descriptions_of(alloc, source)? {
+    for description in &descriptions_of(alloc, source, &[])? {
         shown.push_str(&position_mark(alloc, description.version)?)?;
         shown.push_str("|")?;
     }

@@ -41,7 +41,7 @@ pub fn index(alloc: Global, fields: &[&str]) -> Result<String, RowFault> {
 fn rust(text: &str) -> SourceText<'_> {
     SourceText {
         file: "",
-        finder: Finder::Rust,
+        finder: Finder::Rust(&[]),
         text,
         allowances: &[],
     }
@@ -121,6 +121,7 @@ pub fn session(alloc: Global, fields: &[&str]) -> Result<String, RowFault> {
     let input = one(fields, "INPUT")?;
     let settings = EditorSettings {
         keys: &[],
+        calls: &[],
         levels: None,
     };
     let mut written: Vec<u8> = Vec::new(alloc);

@@ -1,4 +1,4 @@
-use Rattle.std.proofs.Common.{◌∙◌, ◌+◌, ◌-◌, ◌≡◌, arith, length-set, refl}
+use Rattle.std.proofs.Common.{◌∙◌, ◌+◌, ◌-◌, ◌≡◌, arith, length-set}
 use Rattle.timefd_lint_scan.proofs.BlockLemmas.{end_more, one_back}
 use Rattle.timefd_lint_scan.proofs.blocks.ends_of.Goals as goal
 
@@ -6,7 +6,7 @@ pub tokens-preserved : goal.tokens-preserved
 tokens-preserved c =
     let next : c.tokens.left - 1 + 1 ≡ c.tokens.left = omega arith in
     let closed = one_back c.args.source.now c.args.pieces.now (c.tokens.left - 1) c.tokens.left _ _ c.tokens.closings.items
-    c.pass_back.new.closings.items next (omega arith) refl c.tokens.invariant.closed c.in_ok-pass_back.ensures in
+    c.pass_back.new.closings.items next (omega arith) c.index-pieces-left.is c.tokens.invariant.closed c.in_ok-pass_back.ensures in
     record {
       count = length-set c.tokens.ends.items (c.tokens.left - 1) c.last_or.result ∙ c.tokens.invariant.count;
       within = omega arith;

@@ -7,7 +7,7 @@ abbrev pub invariant-tokens : goal.invariant-tokens
 invariant-tokens l = record {
   within : l.left ≤ length l.pieces;
   until : l.until ≡ statement_end l.source (drop l.left l.pieces);
-  found : reverse l.aliases.items ≡ aliases_in l.source (drop l.left l.pieces);
+  found : reverse l.aliases.items ≡ aliases_in l.source l.own (drop l.left l.pieces);
 }
 
 abbrev pub decreases-tokens : goal.decreases-tokens

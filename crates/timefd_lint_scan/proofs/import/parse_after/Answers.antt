@@ -1,11 +1,12 @@
 use Rattle.std.proofs.Common.{◌∙◌, ap, sym}
 use Rattle.std.specs.Prelude.{bytes_eq, codes}
-use Rattle.timefd_lint_scan.proofs.ImportLemmas.{passed_colons}
+use Rattle.timefd_lint_scan.proofs.ImportLemmas.{items_passed}
 use Rattle.timefd_lint_scan.proofs.import.parse_after.Goals as goal
 
 pub parse_or_list-requires : goal.parse_or_list-requires
 parse_or_list-requires c =
-    passed_colons c.args.source.now c.args.pieces.now _ c.args.until c.in-len3-up.len_at_least
-    (ap (λ t. bytes_eq t (codes ":")) (sym c.text_of.ensures) ∙ (sym c.is.ensures ∙ c.if-is.true))
-    (ap (λ t. bytes_eq t (codes ":")) (sym c.text_of-then-is.ensures) ∙ (sym c.is-then-is.ensures ∙ c.if-is-2.true))
+    items_passed c.args.source.now c.args.pieces.now c.first-item.result c.second-item.result c.next-item.result c.args.until
+    c.in-len3-up.len_at_least c.first-item.is c.second-item.is c.next-item.is
+    (ap (λ t. bytes_eq t (codes ":")) (sym c.text.ensures) ∙ (sym c.is.ensures ∙ c.if-is.true))
+    (ap (λ t. bytes_eq t (codes ":")) (sym c.text-then-is.ensures) ∙ (sym c.is-then-is.ensures ∙ c.if-is-2.true))
     c.requires

@@ -4,7 +4,7 @@ use Rattle.timefd_lint_scan.proofs.look.looked_at.Goals as goal
 
 pub returns : goal.returns
 returns c =
-    seen c.args.source.now c.as_bytes-2.result.now c.as_bytes-3.result.now c.in_ok-pieces.field-0.pieces.items
+    seen c.args.source.now c.as_bytes-2.result.now c.as_bytes-3.result.now c.args.own.now c.in_ok-pieces.field-0.pieces.items
     c.in_ok-pieces.field-0.comments.items c.deref.result.now c.deref-2.result.now c.deref-3.result.now
     c.in_ok-marks.marks.items c.deref-4.result.now
     (record {

@@ -18,3 +18,14 @@ described_by-requires-clause-found c = record {
   layout = subst (λ source. IsLayout source c.args.pieces.now c.in_ok-layout.layout) c.as_bytes-bytes.ensures.value
       c.in_ok-layout.ensures;
 }
+
+pub unread_calls-requires : goal.unread_calls-requires
+unread_calls-requires c = record {
+  furthest = subst (λ us. AreFurthest us c.deref-7.result.now) (c.deref-3.ensures.value ∙ sym c.deref-6.ensures.value)
+      (subst (AreFurthest c.deref-3.result.now) (sym c.deref-7.ensures.value) c.in_ok-furthest.ensures);
+  runs = subst (λ us. AreRuns us 0 c.deref-8.result.now) (c.deref-4.ensures.value ∙ sym c.deref-6.ensures.value)
+      (subst (AreRuns c.deref-4.result.now 0) (sym c.deref-8.ensures.value) c.in_ok-runs.ensures);
+  firsts = subst (λ us. AreFirsts c.as_bytes-bytes.result.now us 0 (get nat_eq c.in_ok-firsts.firsts))
+      (c.deref-5.ensures.value ∙ sym c.deref-6.ensures.value) c.in_ok-firsts.ensures;
+  layout = c.in_ok-layout.ensures;
+}

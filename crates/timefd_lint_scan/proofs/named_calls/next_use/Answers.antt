@@ -29,4 +29,5 @@ pub returns-then-eq-clause-unused : goal.returns-then-eq-clause-unused
 returns-then-eq-clause-unused c =
     others_unused c.args.source.now c.args.pieces.now c.args.declared c.args.index c.next_at.result _ c.args.uses.list.now
     (sym c.text_of.ensures
-    ∙ ((bytes_eq-Decides c.text_of.result.now c.text_at.result.now).0 (sym c.eq.ensures ∙ c.if-eq.true) ∙ c.text_at.ensures)) c.next_at.ensures.others
+    ∙ ((bytes_eq-Decides c.text_of.result.now c.text_at.result.now).0 (sym c.eq.ensures ∙ c.if-eq.true) ∙ c.text_at.ensures))
+    c.next_at.ensures.others

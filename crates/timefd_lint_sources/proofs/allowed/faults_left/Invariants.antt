@@ -1,7 +1,7 @@
-use Rattle.std.proofs.Common.{◌≡◌}
+use Rattle.std.proofs.Common.{◌≡◌, flat_map}
 use Rattle.timefd_lint_sources.specs.Allowed as spec
 use Rattle.timefd_lint_sources.proofs.allowed.faults_left.Given as goal
 
 abbrev pub invariant-loop-diagnostic : goal.invariant-loop-diagnostic
 invariant-loop-diagnostic l =
-    l.left.items ≡ spec.faults_left l.source l.description l.fn.first l.yielded
+    l.left.items ≡ flat_map (spec.unless_allowed l.source l.description) l.yielded

@@ -1,0 +1,3 @@
+fn main() {
+    log::pattern("HH:mm zzz");
+}

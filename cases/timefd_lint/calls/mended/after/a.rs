@@ -1,0 +1,3 @@
+fn main() {
+    date.show("[optional [day]]");
+}

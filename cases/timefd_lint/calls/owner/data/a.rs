@@ -1,0 +1,6 @@
+fn main() {
+    DateBased::new("[mnth]");
+    dates::DateBased::new("[mnth]");
+    TimeBased::new("[mnth]");
+    new("[mnth]");
+}

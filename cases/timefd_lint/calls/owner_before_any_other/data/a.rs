@@ -1,0 +1,4 @@
+fn main() {
+    zone::new("[mnth]");
+    Time::new("[mnth] %Q");
+}

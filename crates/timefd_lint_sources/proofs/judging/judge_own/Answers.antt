@@ -1,0 +1,8 @@
+use Rattle.timefd_lint_sources.proofs.VerdictLemmas.{are_faults}
+use Rattle.timefd_lint_sources.proofs.judging.judge_own.Goals as goal
+
+pub returns-in_ok-faults-in-Some : goal.returns-in_ok-faults-in-Some
+returns-in_ok-faults-in-Some c =
+    are_faults c.args.language c.args.items c.args.levels c.args.text.now c.in_ok-diagnose.field-0
+    c.in-Some.first c.in_ok-faults-in-Some.faults c.in-Some.is c.in_ok-diagnose.ensures.refused
+    c.in_ok-diagnose.ensures.diagnosis c.in_ok-faults-in-Some.ensures
