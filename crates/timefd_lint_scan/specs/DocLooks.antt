@@ -5,6 +5,7 @@ use Rattle.std.specs.Option.{option_map, option_to_list}
 use Rattle.timefd_lint_scan.specs.declared.candidate.CandidateLiteral.{CandidateLiteral}
 use Rattle.timefd_lint_scan.specs.declared.description.SourceDescription.{SourceDescription}
 use Rattle.timefd_lint_scan.specs.declared.look.Look.{Look}
+use Rattle.timefd_lint_scan.specs.declared.own_call.OwnCall.{OwnCall}
 use Rattle.timefd_lint_scan.specs.declared.piece.PlacedToken.{PlacedToken}
 use Rattle.timefd_lint_scan.specs.declared.version.VersionPosition.{VersionPosition}
 use Rattle.timefd_lint_scan.specs.declared.version.VersionPosition.TheVariants.{Digit, Unsaid, Call, Elsewhere}
@@ -54,10 +55,11 @@ short e d = if is_in_a_line e.code d.piece then moved e.start d ∷ [] else []
 abbrev pub long : Example → SourceDescription → List ℕ
 long e d = if is_in_a_line e.code d.piece then [] else (e.start + d.piece.start) ∷ []
 
--- Each example is looked at by itself.
-abbrev pub AreLooks : List Example → List Look → Type 0
-AreLooks [] looks = looks ≡ []
-AreLooks (e ∷ es) looks = (look : Look) × (rest : List Look) × IsLook e.code look × AreLooks es rest × (looks ≡ look ∷ rest)
+-- Each example is looked at by itself, with these calls of the project.
+abbrev pub AreLooks : List OwnCall → List Example → List Look → Type 0
+AreLooks calls [] looks = looks ≡ []
+AreLooks calls (e ∷ es) looks =
+    (look : Look) × (rest : List Look) × IsLook e.code calls look × AreLooks calls es rest × (looks ≡ look ∷ rest)
 
 abbrev pub all_short : List Example → List Look → List CandidateLiteral
 all_short [] looks = []
@@ -89,16 +91,31 @@ AreKept from [] all = all ≡ []
 AreKept from (d ∷ ds) all = (rest : List SourceDescription)
     × AreKept (end_after from (begun_after from (Some d))) ds rest × (all ≡ option_to_list (begun_after from (Some d)) ++ rest)
 
--- What is seen in a source by itself, and in its examples.
-pub record IsSeenWithin (source : Text) (look : Look) : Type 0 where
-  pub own : Look
-  pub by_itself : IsLook source own
+-- two ascending lists as one
+abbrev pub merged : List ℕ → List ℕ → List ℕ
+merged [] ys = ys
+merged (x ∷ xs) [] = x ∷ xs
+merged (x ∷ xs) (y ∷ ys) = if nat_le x y then x ∷ merged xs (y ∷ ys) else y ∷ merged (x ∷ xs) ys
+
+-- what is seen in each example, at the positions of the source
+abbrev pub all_moved : (Look → List ℕ) → List Example → List Look → List ℕ
+all_moved of [] looks = []
+all_moved of (e ∷ es) [] = []
+all_moved of (e ∷ es) (look ∷ looks) = map (λ n. e.start + n) (of look) ++ all_moved of es looks
+
+-- What is seen in a source by itself, with these calls of its project, and in its examples.
+pub record IsSeenWithin (source : Text) (calls : List OwnCall) (look : Look) : Type 0 where
+  pub alone : Look
+  pub by_itself : IsLook source calls alone
   pub notes : List PlacedToken
-  pub comments : AreComments source notes
+  pub noted : AreComments source notes
   pub looks : List Look
-  pub examples : AreLooks (tests_in source notes) looks
-  pub descriptions : AreJoined source 0 (all_short (tests_in source notes) looks) own.descriptions.items look.descriptions.items
+  pub examples : AreLooks calls (tests_in source notes) looks
+  pub descriptions : AreJoined source 0 (all_short (tests_in source notes) looks) alone.descriptions.items look.descriptions.items
+  pub unread : look.calls.items ≡ merged alone.calls.items (merged (all_moved (λ (l : Look). l.calls.items) (tests_in source notes) looks)
+      (all_long (tests_in source notes) looks))
+  pub words : look.comments.items ≡ merged alone.comments.items (all_moved (λ (l : Look). l.comments.items) (tests_in source notes) looks)
 
 -- Nothing is seen in a source that has none of the names that descriptions come with.
-abbrev pub IsLookWithin : Text → Look → Type 0
-IsLookWithin source look = (HasNoName source × IsBlank look) ⊎ IsSeenWithin source look
+abbrev pub IsLookWithin : Text → List OwnCall → Look → Type 0
+IsLookWithin source calls look = (HasNoName source calls × IsBlank look) ⊎ IsSeenWithin source calls look

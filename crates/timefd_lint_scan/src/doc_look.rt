@@ -1,6 +1,5 @@
 //! What is seen in a source and in the examples of its doc comments.
 
-
 use crate::candidate::CandidateLiteral;
 use crate::description::{SourceDescription, described_any, push_any};
 use crate::doc_tests::{DocTest, doc_tests_of};

@@ -5,7 +5,6 @@ mod fence;
 mod info;
 mod line;
 
-
 use crate::class::{ByteSet, after_run};
 use crate::doc_tests::code::push_code;
 use crate::doc_tests::fence::{Fence, closes, opening_of};
