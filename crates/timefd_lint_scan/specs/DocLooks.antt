@@ -1,6 +1,6 @@
 -- What is seen in a source and in the examples of its doc comments.
-use Rattle.std.specs.Prelude.{ℕ, ◌≡◌, ◌+◌, ◌⊎◌, Bool, true, false, not, nat_le, nat_lt, if◌then◌else◌, List, [], ◌∷◌, ◌++◌, drop, length, Option, Some, None}
-use Rattle.std.specs.List.{flat_map, map, prefix_len}
+use Rattle.std.specs.Prelude.{ℕ, ◌≡◌, ◌+◌, ◌⊎◌, ◌==◌, Bool, true, false, not, nat_le, nat_lt, if◌then◌else◌, List, [], ◌∷◌, ◌++◌, drop, length, map, Option, Some, None}
+use Rattle.std.specs.List.{flat_map, prefix_len}
 use Rattle.std.specs.Option.{option_map, option_to_list}
 use Rattle.timefd_lint_scan.specs.declared.candidate.CandidateLiteral.{CandidateLiteral}
 use Rattle.timefd_lint_scan.specs.declared.description.SourceDescription.{SourceDescription}
@@ -71,25 +71,31 @@ all_long [] looks = []
 all_long (e ∷ es) [] = []
 all_long (e ∷ es) (look ∷ looks) = flat_map (long e) look.descriptions.items ++ all_long es looks
 
--- These descriptions of the source itself and those of examples, each before the next one.
-abbrev pub AreJoined : Text → ℕ → List CandidateLiteral → List SourceDescription → List SourceDescription → Type 0
-AreJoined source from [] own all = AreKept from own all
-AreJoined source from (c ∷ cs) [] all =
-    (answer : Option SourceDescription) × (rest : List SourceDescription) × IsDescribed source c answer
-    × AreJoined source (end_after from (begun_after from answer)) cs [] rest
-    × (all ≡ option_to_list (begun_after from answer) ++ rest)
-AreJoined source from (c ∷ cs) (d ∷ ds) all =
-    if nat_lt c.piece.start d.piece.start then
-    ((answer : Option SourceDescription) × (rest : List SourceDescription) × IsDescribed source c answer
-    × AreJoined source (end_after from (begun_after from answer)) cs (d ∷ ds) rest
-    × (all ≡ option_to_list (begun_after from answer) ++ rest))
-    else ((rest : List SourceDescription) × AreJoined source (end_after from (begun_after from (Some d))) (c ∷ cs) ds rest
-    × (all ≡ option_to_list (begun_after from (Some d)) ++ rest))
+-- a literal of an example, or a description of the source itself
+pub data Part : Type 0 where
+  OfExample : CandidateLiteral → Part
+  OfSource : SourceDescription → Part
 
-abbrev pub AreKept : ℕ → List SourceDescription → List SourceDescription → Type 0
-AreKept from [] all = all ≡ []
-AreKept from (d ∷ ds) all = (rest : List SourceDescription)
-    × AreKept (end_after from (begun_after from (Some d))) ds rest × (all ≡ option_to_list (begun_after from (Some d)) ++ rest)
+-- all of them, by where they begin
+abbrev pub by_position : List CandidateLiteral → List SourceDescription → List Part
+by_position [] [] = []
+by_position [] (d ∷ ds) = OfSource d ∷ by_position [] ds
+by_position (c ∷ cs) [] = OfExample c ∷ by_position cs []
+by_position (c ∷ cs) (d ∷ ds) =
+    if nat_lt c.piece.start d.piece.start then OfExample c ∷ by_position cs (d ∷ ds) else OfSource d ∷ by_position (c ∷ cs) ds
+
+-- what each of them is: a literal may be no description
+abbrev pub IsEither : Text → Part → Option SourceDescription → Type 0
+IsEither source (OfExample c) answer = IsDescribed source c answer
+IsEither source (OfSource d) answer = answer ≡ Some d
+
+-- The descriptions among them, each of which begins after the one before.
+abbrev pub AreJoined : Text → ℕ → List Part → List SourceDescription → Type 0
+AreJoined source from [] all = all ≡ []
+AreJoined source from (x ∷ xs) all =
+    (answer : Option SourceDescription) × (rest : List SourceDescription) × IsEither source x answer
+    × AreJoined source (end_after from (begun_after from answer)) xs rest
+    × (all ≡ option_to_list (begun_after from answer) ++ rest)
 
 -- two ascending lists as one
 abbrev pub merged : List ℕ → List ℕ → List ℕ
@@ -111,7 +117,8 @@ pub record IsSeenWithin (source : Text) (calls : List OwnCall) (look : Look) : T
   pub noted : AreComments source notes
   pub looks : List Look
   pub examples : AreLooks calls (tests_in source notes) looks
-  pub descriptions : AreJoined source 0 (all_short (tests_in source notes) looks) alone.descriptions.items look.descriptions.items
+  pub descriptions : AreJoined source 0
+      (by_position (all_short (tests_in source notes) looks) alone.descriptions.items) look.descriptions.items
   pub unread : look.calls.items ≡ merged alone.calls.items (merged (all_moved (λ (l : Look). l.calls.items) (tests_in source notes) looks)
       (all_long (tests_in source notes) looks))
   pub words : look.comments.items ≡ merged alone.comments.items (all_moved (λ (l : Look). l.comments.items) (tests_in source notes) looks)

@@ -1,5 +1,5 @@
 -- Examples in doc comments, as rustdoc compiles them: each is a source by itself.
-use Rattle.std.specs.Prelude.{ℕ, zero, suc, ◌≡◌, ◌+◌, ◌<◌, ◌⊎◌, Bool, true, false, not, ◌&&◌, ◌||◌, ◌==◌, nat_le, nat_lt, if◌then◌else◌, List, [], ◌∷◌, ◌++◌, codes, bytes_eq, drop, get_or, length, replicate, take, Option, Some, None}
+use Rattle.std.specs.Prelude.{ℕ, zero, suc, ◌≡◌, ◌+◌, ◌-◌, ◌<◌, ◌⊎◌, Bool, true, false, not, ◌&&◌, ◌||◌, ◌==◌, nat_le, nat_lt, if◌then◌else◌, List, [], ◌∷◌, ◌++◌, codes, bytes_eq, drop, get_or, length, replicate, take, Option, Some, None}
 use Rattle.std.specs.List.{prefix_len, starts_with}
 use Rattle.timefd_lint_scan.specs.declared.class.ByteSet.TheVariants.{White}
 use Rattle.timefd_lint_scan.specs.declared.piece.PlacedToken.{PlacedToken}
@@ -171,21 +171,36 @@ open_after source before line now e =
 abbrev pub closed_by : Bool → Place → Example → List Example
 closed_by goes place e = if is_in_example place && not goes then e ∷ [] else []
 
--- the examples in these comments, after a line at a place, in which an example is open if it is one
-abbrev pub tests_from : Text → Place → Option Line → Example → List PlacedToken → List Example
-tests_from source place before e [] = closed_by false place e
-tests_from source place before e (c ∷ cs) = tests_after source place before e cs (line_of c (cut source c))
+-- How far comments are read: where the last one stands, its line, and the example that is open there, if it is in one.
+pub record Walk : Type 0 where
+  pub place : Place
+  pub before : Option Line
+  pub example : Example
 
-abbrev pub tests_after : Text → Place → Option Line → Example → List PlacedToken → Option Line → List Example
-tests_after source place before e cs None = closed_by false place e ++ tests_from source Outside None e cs
-tests_after source place before e cs (Some line) =
-    tests_at source place (place_before source place before line) e cs line
+abbrev pub place_of : Text → Walk → Line → Place
+place_of source w line = place_before source w.place w.before line
 
-abbrev pub tests_at : Text → Place → Place → Example → List PlacedToken → Line → List Example
-tests_at source place start e cs line =
-    closed_by (is_in_example start && is_in_example (place_after start line.text)) place e
-    ++ tests_from source (place_after start line.text) (Some line) (open_after source start line (place_after start line.text) e) cs
+-- after one comment more
+abbrev pub after_comment : Text → Walk → Option Line → Walk
+after_comment source w None = record { place = Outside; before = None; example = w.example }
+after_comment source w (Some line) = record {
+  place = place_after (place_of source w line) line.text;
+  before = Some line;
+  example = open_after source (place_of source w line) line (place_after (place_of source w line) line.text) w.example;
+}
+
+-- the example that ends before a comment, if one does
+abbrev pub ended_before : Text → Walk → Option Line → List Example
+ended_before source w None = closed_by false w.place w.example
+ended_before source w (Some line) =
+    closed_by (is_in_example (place_of source w line) && is_in_example (place_after (place_of source w line) line.text)) w.place w.example
+
+-- the examples in these comments, after others
+abbrev pub tests_from : Text → Walk → List PlacedToken → List Example
+tests_from source w [] = closed_by false w.place w.example
+tests_from source w (c ∷ cs) =
+    ended_before source w (line_of c (cut source c)) ++ tests_from source (after_comment source w (line_of c (cut source c))) cs
 
 -- the examples in these comments of a source, in order
 abbrev pub tests_in : Text → List PlacedToken → List Example
-tests_in source cs = tests_from source Outside None (begun_at 0) cs
+tests_in source cs = tests_from source (record { place = Outside; before = None; example = begun_at 0 }) cs
