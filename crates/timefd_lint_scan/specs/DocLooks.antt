@@ -10,7 +10,7 @@ use Rattle.timefd_lint_scan.specs.declared.piece.PlacedToken.{PlacedToken}
 use Rattle.timefd_lint_scan.specs.declared.version.VersionPosition.{VersionPosition}
 use Rattle.timefd_lint_scan.specs.declared.version.VersionPosition.TheVariants.{Digit, Unsaid, Call, Elsewhere}
 use Rattle.timefd_lint_scan.specs.Bytes.{Text}
-use Rattle.timefd_lint_scan.specs.DocTests.{Example, tests_in}
+use Rattle.timefd_lint_scan.specs.DocTests.{TestCode, tests_in}
 use Rattle.timefd_lint_scan.specs.Found.{IsDescribed, begun_after, end_after}
 use Rattle.timefd_lint_scan.specs.Gathered.{AreComments}
 use Rattle.timefd_lint_scan.specs.Looks.{IsBlank, IsLook}
@@ -48,25 +48,25 @@ abbrev pub is_in_a_line : Text → PlacedToken → Bool
 is_in_a_line code p = nat_le p.end (p.start + prefix_len (λ byte. not (byte == 10)) (drop p.start code))
 
 -- the literals of an example that are looked at in the source: those in one line
-abbrev pub short : Example → SourceDescription → List CandidateLiteral
+abbrev pub short : TestCode → SourceDescription → List CandidateLiteral
 short e d = if is_in_a_line e.code d.piece then moved e.start d ∷ [] else []
 
 -- where those begin that aren't
-abbrev pub long : Example → SourceDescription → List ℕ
+abbrev pub long : TestCode → SourceDescription → List ℕ
 long e d = if is_in_a_line e.code d.piece then [] else (e.start + d.piece.start) ∷ []
 
 -- Each example is looked at by itself, with these calls of the project.
-abbrev pub AreLooks : List OwnCall → List Example → List Look → Type 0
+abbrev pub AreLooks : List OwnCall → List TestCode → List Look → Type 0
 AreLooks calls [] looks = looks ≡ []
 AreLooks calls (e ∷ es) looks =
     (look : Look) × (rest : List Look) × IsLook e.code calls look × AreLooks calls es rest × (looks ≡ look ∷ rest)
 
-abbrev pub all_short : List Example → List Look → List CandidateLiteral
+abbrev pub all_short : List TestCode → List Look → List CandidateLiteral
 all_short [] looks = []
 all_short (e ∷ es) [] = []
 all_short (e ∷ es) (look ∷ looks) = flat_map (short e) look.descriptions.items ++ all_short es looks
 
-abbrev pub all_long : List Example → List Look → List ℕ
+abbrev pub all_long : List TestCode → List Look → List ℕ
 all_long [] looks = []
 all_long (e ∷ es) [] = []
 all_long (e ∷ es) (look ∷ looks) = flat_map (long e) look.descriptions.items ++ all_long es looks
@@ -104,7 +104,7 @@ merged (x ∷ xs) [] = x ∷ xs
 merged (x ∷ xs) (y ∷ ys) = if nat_le x y then x ∷ merged xs (y ∷ ys) else y ∷ merged (x ∷ xs) ys
 
 -- what is seen in each example, at the positions of the source
-abbrev pub all_moved : (Look → List ℕ) → List Example → List Look → List ℕ
+abbrev pub all_moved : (Look → List ℕ) → List TestCode → List Look → List ℕ
 all_moved of [] looks = []
 all_moved of (e ∷ es) [] = []
 all_moved of (e ∷ es) (look ∷ looks) = map (λ n. e.start + n) (of look) ++ all_moved of es looks

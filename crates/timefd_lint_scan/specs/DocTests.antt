@@ -1,7 +1,12 @@
 -- Examples in doc comments, as rustdoc compiles them: each is a source by itself.
-use Rattle.std.specs.Prelude.{ℕ, zero, suc, ◌≡◌, ◌+◌, ◌-◌, ◌<◌, ◌⊎◌, Bool, true, false, not, ◌&&◌, ◌||◌, ◌==◌, nat_le, nat_lt, if◌then◌else◌, List, [], ◌∷◌, ◌++◌, codes, bytes_eq, drop, get_or, length, replicate, take, Option, Some, None}
+use Rattle.std.specs.Prelude.{ℕ, zero, suc, ◌≡◌, ◌+◌, ◌-◌, ◌<◌, ◌⊎◌, Bool, true, false, not, ◌&&◌, ◌||◌, ◌==◌, nat_eq, nat_le, nat_lt, if◌then◌else◌, List, [], ◌∷◌, ◌++◌, codes, bytes_eq, drop, get_or, length, replicate, take, Option, Some, None}
 use Rattle.std.specs.List.{prefix_len, starts_with}
 use Rattle.timefd_lint_scan.specs.declared.class.ByteSet.TheVariants.{White}
+use Rattle.timefd_lint_scan.specs.declared.doc_tests.DocPlace.{DocPlace}
+use Rattle.timefd_lint_scan.specs.declared.doc_tests.DocPlace.TheVariants.{Outside, Example, Block}
+use Rattle.timefd_lint_scan.specs.declared.doc_tests.fence.Fence.{Fence}
+use Rattle.timefd_lint_scan.specs.declared.doc_tests.info.Verdict.{Verdict}
+use Rattle.timefd_lint_scan.specs.declared.doc_tests.info.Verdict.TheVariants.{Unsaid, Rust, Other, Failing}
 use Rattle.timefd_lint_scan.specs.declared.piece.PlacedToken.{PlacedToken}
 use Rattle.timefd_lint_scan.specs.After.{after_run}
 use Rattle.timefd_lint_scan.specs.Bytes.{Text, is_white}
@@ -24,20 +29,13 @@ shown (b ∷ next ∷ rest) = if b == 35 && (next == 35 || is_white next) then 3
 abbrev pub code_of : Text → Text
 code_of text = in_front text (after_run is_white text) ++ shown (after_run is_white text)
 
--- what the words say up to one about a block: nothing yet, that it is Rust, that it is another language, that it has to fail
-pub data Verdict : Type 0 where
-  Unsaid : Verdict
-  Rust : Verdict
-  Other : Verdict
-  Failing : Verdict
-
 abbrev pub is_attribute : Text → Bool
 is_attribute word =
     bytes_eq word (codes "should_panic") || bytes_eq word (codes "no_run") || bytes_eq word (codes "test_harness")
-    || bytes_eq word (codes "standalone_crate") || bytes_eq (take 6 word) (codes "ignore")
+    || bytes_eq word (codes "standalone_crate") || starts_with nat_eq word (codes "ignore")
 
 abbrev pub says_nothing : Text → Bool
-says_nothing word = length word == 0 || bytes_eq (take 7 word) (codes "edition")
+says_nothing word = length word == 0 || starts_with nat_eq word (codes "edition")
 
 abbrev pub with_word : Verdict → Text → Verdict
 with_word Unsaid word =
@@ -86,33 +84,29 @@ is_opening_by sign text =
     nat_le 3 (count_of sign text) && (sign == 126 || prefix_len (λ byte. not (byte == sign)) (drop (count_of sign text) text)
     == length (drop (count_of sign text) text))
 
-abbrev pub is_closing_by : ℕ → ℕ → Text → Bool
-is_closing_by sign count text =
-    nat_le count (count_of sign text) && length (after_run is_white (drop (count_of sign text) text)) == 0
+-- Only a fence stands in a line, which is as long as this one, or longer.
+abbrev pub is_closing_by : Fence → Text → Bool
+is_closing_by fence text =
+    nat_le fence.count (count_of fence.sign text) && length (after_run is_white (drop (count_of fence.sign text) text)) == 0
 
--- where a line of a doc comment stands: in no block, in an example, or in another block, which so many of these bytes close
-pub data Place : Type 0 where
-  Outside : Place
-  In : ℕ → ℕ → Place
-  Block : ℕ → ℕ → Place
-
-abbrev pub opened_by : ℕ → Text → Place
+-- where a line stands that these bytes begin
+abbrev pub opened_by : ℕ → Text → DocPlace
 opened_by sign text =
     if not (is_opening_by sign text) then Outside
-    else if is_rust (drop (count_of sign text) text) then In sign (count_of sign text)
-    else Block sign (count_of sign text)
+    else if is_rust (drop (count_of sign text) text) then Example (record { sign = sign; count = count_of sign text })
+    else Block (record { sign = sign; count = count_of sign text })
 
-abbrev pub opened : Text → Place
+abbrev pub opened : Text → DocPlace
 opened [] = Outside
 opened (b ∷ bytes) = if b == 96 || b == 126 then opened_by b (b ∷ bytes) else Outside
 
 -- the place after a line that stands at another
-abbrev pub place_after : Place → Text → Place
+abbrev pub place_after : DocPlace → Text → DocPlace
 place_after Outside line = opened (after_run is_white line)
-place_after (In sign count) line =
-    if is_closing_by sign count (after_run is_white line) then Outside else In sign count
-place_after (Block sign count) line =
-    if is_closing_by sign count (after_run is_white line) then Outside else Block sign count
+place_after (Example fence) line =
+    if is_closing_by fence (after_run is_white line) then Outside else Example fence
+place_after (Block fence) line =
+    if is_closing_by fence (after_run is_white line) then Outside else Block fence
 
 -- A line of a doc comment: whether it is about the item that it is in, and what stands after its sign.
 pub record Line : Type 0 where
@@ -136,48 +130,48 @@ goes_on source (Some before) line =
     (if before.inner then line.inner else not line.inner) && nat_le before.piece.end line.piece.start
     && length (after_run is_white (take (line.piece.start - before.piece.end) (drop before.piece.end source))) == 0
 
-abbrev pub place_before : Text → Place → Option Line → Line → Place
+abbrev pub place_before : Text → DocPlace → Option Line → Line → DocPlace
 place_before source place before line = if goes_on source before line then place else Outside
 
 -- an example: its code, and where that begins in the source
-pub record Example : Type 0 where
+pub record TestCode : Type 0 where
   pub start : ℕ
   pub code : Text
 
 -- an example with one line more: the white bytes before it, three spaces for its sign, and its code
-abbrev pub with_line : Text → Example → Line → Example
+abbrev pub with_line : Text → TestCode → Line → TestCode
 with_line source e line = record {
   start = e.start;
   code = e.code ++ take (line.piece.start - (e.start + length e.code)) (drop (e.start + length e.code) source)
       ++ 32 ∷ 32 ∷ 32 ∷ [] ++ code_of line.text;
 }
 
-abbrev pub begun_at : ℕ → Example
+abbrev pub begun_at : ℕ → TestCode
 begun_at start = record { start = start; code = [] }
 
-abbrev pub is_in_example : Place → Bool
+abbrev pub is_in_example : DocPlace → Bool
 is_in_example Outside = false
-is_in_example (In sign count) = true
-is_in_example (Block sign count) = false
+is_in_example (Example fence) = true
+is_in_example (Block fence) = false
 
 -- the example that is open after a line; it begins after the line that opens it
-abbrev pub open_after : Text → Place → Line → Place → Example → Example
+abbrev pub open_after : Text → DocPlace → Line → DocPlace → TestCode → TestCode
 open_after source before line now e =
     if not (is_in_example now) then e
     else if is_in_example before then with_line source e line
     else begun_at line.piece.end
 
 -- the example that was open before a line, if the line isn't in it
-abbrev pub closed_by : Bool → Place → Example → List Example
+abbrev pub closed_by : Bool → DocPlace → TestCode → List TestCode
 closed_by goes place e = if is_in_example place && not goes then e ∷ [] else []
 
 -- How far comments are read: where the last one stands, its line, and the example that is open there, if it is in one.
 pub record Walk : Type 0 where
-  pub place : Place
+  pub place : DocPlace
   pub before : Option Line
-  pub example : Example
+  pub example : TestCode
 
-abbrev pub place_of : Text → Walk → Line → Place
+abbrev pub place_of : Text → Walk → Line → DocPlace
 place_of source w line = place_before source w.place w.before line
 
 -- after one comment more
@@ -190,17 +184,17 @@ after_comment source w (Some line) = record {
 }
 
 -- the example that ends before a comment, if one does
-abbrev pub ended_before : Text → Walk → Option Line → List Example
+abbrev pub ended_before : Text → Walk → Option Line → List TestCode
 ended_before source w None = closed_by false w.place w.example
 ended_before source w (Some line) =
     closed_by (is_in_example (place_of source w line) && is_in_example (place_after (place_of source w line) line.text)) w.place w.example
 
 -- the examples in these comments, after others
-abbrev pub tests_from : Text → Walk → List PlacedToken → List Example
+abbrev pub tests_from : Text → Walk → List PlacedToken → List TestCode
 tests_from source w [] = closed_by false w.place w.example
 tests_from source w (c ∷ cs) =
     ended_before source w (line_of c (cut source c)) ++ tests_from source (after_comment source w (line_of c (cut source c))) cs
 
 -- the examples in these comments of a source, in order
-abbrev pub tests_in : Text → List PlacedToken → List Example
+abbrev pub tests_in : Text → List PlacedToken → List TestCode
 tests_in source cs = tests_from source (record { place = Outside; before = None; example = begun_at 0 }) cs

@@ -23,11 +23,11 @@ pub struct DocTest {
 
 /// Where a line of a doc comment stands.
 #[derive(Clone, Copy)]
-enum DocPlace {
+pub enum DocPlace {
     /// In no block of code.
-    Text,
+    Outside,
     /// In an example, which this fence closes.
-    Test(Fence),
+    Example(Fence),
     /// In another block, which this fence closes.
     Block(Fence),
 }
@@ -50,7 +50,7 @@ fn opened(
     line: DocLine<'_>,
 ) -> Result<DocPlace, AllocError> {
     let Some(opening) = opening_of(line.text) else {
-        return Ok(DocPlace::Text);
+        return Ok(DocPlace::Outside);
     };
     if !is_rust(opening.info) {
         return Ok(DocPlace::Block(opening.fence));
@@ -59,7 +59,7 @@ fn opened(
         start: line.piece.end,
         code: Vec::new(alloc),
     })?;
-    Ok(DocPlace::Test(opening.fence))
+    Ok(DocPlace::Example(opening.fence))
 }
 
 // Adds a line to the last example.
@@ -85,15 +85,15 @@ fn place_after(
     line: DocLine<'_>,
 ) -> Result<DocPlace, AllocError> {
     match place {
-        DocPlace::Text => opened(alloc, tests, line),
+        DocPlace::Outside => opened(alloc, tests, line),
         DocPlace::Block(fence) => Ok(if closes(fence, line.text) {
-            DocPlace::Text
+            DocPlace::Outside
         } else {
             place
         }),
-        DocPlace::Test(fence) => {
+        DocPlace::Example(fence) => {
             if closes(fence, line.text) {
-                return Ok(DocPlace::Text);
+                return Ok(DocPlace::Outside);
             }
             push_line(tests, source, line)?;
             Ok(place)
@@ -108,7 +108,7 @@ pub fn doc_tests_of(
     comments: &[PlacedToken],
 ) -> Result<Vec<DocTest>, AllocError> {
     let mut tests = Vec::new(alloc);
-    let mut place = DocPlace::Text;
+    let mut place = DocPlace::Outside;
     let mut before: Option<DocLine<'_>> = None;
     for comment in comments {
         let line = doc_line(source, *comment);
@@ -117,11 +117,11 @@ pub fn doc_tests_of(
                 let start = if goes_on(source, before, line) {
                     place
                 } else {
-                    DocPlace::Text
+                    DocPlace::Outside
                 };
                 place_after(alloc, &mut tests, source, start, line)?
             }
-            None => DocPlace::Text,
+            None => DocPlace::Outside,
         };
         before = line;
     }

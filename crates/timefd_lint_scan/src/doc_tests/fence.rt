@@ -1,5 +1,10 @@
 //! Fences, which open and close blocks of code in Markdown.
 
+ghost use Rattle.std.specs.Prelude.{◌≡◌, ◌≤◌, length};
+ghost use Rattle.timefd_lint_scan.specs.After.{after_run as after_spec};
+ghost use Rattle.timefd_lint_scan.specs.Bytes.{is_white};
+ghost use Rattle.timefd_lint_scan.specs.DocTests as spec;
+
 use crate::class::{ByteSet, after_run};
 use crate::line::from;
 use memchr::memchr;
@@ -10,8 +15,8 @@ const FEWEST_SIGNS: usize = 3;
 /// A fence: so many backticks or tildes.
 #[derive(Clone, Copy)]
 pub struct Fence {
-    sign: u8,
-    count: usize,
+    pub sign: u8,
+    pub count: usize,
 }
 
 /// A line that opens a block.
@@ -23,10 +28,18 @@ pub struct Opening<'a> {
 }
 
 /// How many of these bytes a text begins with.
-fn count_of(text: &[u8], sign: u8) -> usize {
+fn count_of(text: &[u8], sign: u8) -> usize
+    ensures count { result ≡ spec.count_of sign text.now }
+    ensures within { result ≤ length text.now }
+{
     let mut count: usize = 0;
-    'bytes: while count < text.len() && text[count] == sign {
+    let mut rest = text;
+    'bytes: while let [byte, after @ ..] = rest {
+        if *byte != sign {
+            return count;
+        }
         count += 1;
+        rest = after;
     }
     count
 }
@@ -53,7 +66,9 @@ pub fn opening_of(line: &[u8]) -> Option<Opening<'_>> {
 }
 
 /// Whether a line closes the block that a fence has opened: it has only that fence, or a longer one.
-pub fn closes(fence: Fence, line: &[u8]) -> bool {
+pub fn closes(fence: Fence, line: &[u8]) -> bool
+    ensures { result ≡ spec.is_closing_by fence (after_spec is_white line.now) }
+{
     let text = after_run(ByteSet::White, line);
     let count = count_of(text, fence.sign);
     fence.count <= count && after_run(ByteSet::White, from(text, count)).is_empty()

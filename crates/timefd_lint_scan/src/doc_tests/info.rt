@@ -1,12 +1,15 @@
 //! The words after a fence, which say whether a block is an example that rustdoc compiles.
 
+ghost use Rattle.std.specs.Prelude.{◌≡◌, ◌≤◌, length};
+ghost use Rattle.timefd_lint_scan.specs.DocTests as spec;
+
 use crate::class::is_white;
 use crate::dialect::is;
 use crate::line::from;
 
 /// What the words up to one say about a block.
 #[derive(Clone, Copy)]
-enum Verdict {
+pub enum Verdict {
     /// Nothing yet: without a word it is Rust.
     Unsaid,
     /// It is Rust.
@@ -18,7 +21,9 @@ enum Verdict {
 }
 
 // Whether a word says how an example of Rust is compiled or run.
-fn is_attribute(word: &[u8]) -> bool {
+fn is_attribute(word: &[u8]) -> bool
+    ensures { result ≡ spec.is_attribute word.now }
+{
     is(word, "should_panic")
         || is(word, "no_run")
         || is(word, "test_harness")
@@ -26,28 +31,63 @@ fn is_attribute(word: &[u8]) -> bool {
         || word.starts_with(b"ignore")
 }
 
-// What the words say up to one that follows others.
-fn after_word(verdict: Verdict, word: &[u8]) -> Verdict {
-    if is(word, "compile_fail") {
-        return Verdict::Failing;
-    }
-    if word.is_empty() || word.starts_with(b"edition") {
-        return verdict;
-    }
+// What the words say up to one that says something.
+fn with_word(verdict: Verdict, word: &[u8]) -> Verdict
+    ensures { result ≡ spec.with_word verdict word.now }
+{
     match verdict {
-        Verdict::Failing => verdict,
-        Verdict::Unsaid | Verdict::Rust | Verdict::Other if is(word, "rust") => Verdict::Rust,
-        Verdict::Rust | Verdict::Other => verdict,
-        Verdict::Unsaid if is_attribute(word) => Verdict::Rust,
-        Verdict::Unsaid => Verdict::Other,
+        Verdict::Unsaid => {
+            if is(word, "rust") || is_attribute(word) {
+                Verdict::Rust
+            } else {
+                Verdict::Other
+            }
+        }
+        Verdict::Rust => Verdict::Rust,
+        Verdict::Other => {
+            if is(word, "rust") {
+                Verdict::Rust
+            } else {
+                Verdict::Other
+            }
+        }
+        Verdict::Failing => Verdict::Failing,
     }
 }
 
-// Where the word ends that a text begins with: at a comma or a white byte.
-fn word_end(text: &[u8]) -> usize {
+// What the words say up to one that follows others.
+fn after_word(verdict: Verdict, word: &[u8]) -> Verdict
+    ensures { result ≡ spec.after_word verdict word.now }
+{
+    if is(word, "compile_fail") {
+        Verdict::Failing
+    } else if word.is_empty() || word.starts_with(b"edition") {
+        verdict
+    } else {
+        with_word(verdict, word)
+    }
+}
+
+// Whether a byte is of a word: neither a comma nor a white byte.
+fn is_of_word(byte: u8) -> bool
+    ensures { result ≡ spec.is_of_word byte }
+{
+    !(byte == b',' || is_white(byte))
+}
+
+// Where the word ends that a text begins with.
+fn word_end(text: &[u8]) -> usize
+    ensures end { result ≡ spec.word_end text.now }
+    ensures within { result ≤ length text.now }
+{
     let mut end: usize = 0;
-    'bytes: while end < text.len() && text[end] != b',' && !is_white(text[end]) {
+    let mut rest = text;
+    'bytes: while let [byte, after @ ..] = rest {
+        if !is_of_word(*byte) {
+            return end;
+        }
         end += 1;
+        rest = after;
     }
     end
 }
