@@ -2,8 +2,8 @@
 use Rattle.std.specs.Prelude.{ℕ, zero, suc, ◌≡◌, ◌+◌, ◌-◌, ◌<◌, ◌⊎◌, Bool, true, false, not, ◌&&◌, ◌||◌, ◌==◌, nat_eq, nat_le, nat_lt, if◌then◌else◌, List, [], ◌∷◌, ◌++◌, codes, bytes_eq, drop, get_or, length, replicate, take, Option, Some, None}
 use Rattle.std.specs.List.{prefix_len, starts_with}
 use Rattle.timefd_lint_scan.specs.declared.class.ByteSet.TheVariants.{White}
-use Rattle.timefd_lint_scan.specs.declared.doc_tests.DocPlace.{DocPlace}
-use Rattle.timefd_lint_scan.specs.declared.doc_tests.DocPlace.TheVariants.{Outside, Example, Block}
+use Rattle.timefd_lint_scan.specs.declared.doc_tests.place.DocPlace.{DocPlace}
+use Rattle.timefd_lint_scan.specs.declared.doc_tests.place.DocPlace.TheVariants.{Outside, Example, Block}
 use Rattle.timefd_lint_scan.specs.declared.doc_tests.fence.Fence.{Fence}
 use Rattle.timefd_lint_scan.specs.declared.doc_tests.info.Verdict.{Verdict}
 use Rattle.timefd_lint_scan.specs.declared.doc_tests.info.Verdict.TheVariants.{Unsaid, Rust, Other, Failing}
@@ -78,27 +78,37 @@ is_rust info = takes (verdict_of (length info) Unsaid info)
 abbrev pub count_of : ℕ → Text → ℕ
 count_of sign text = prefix_len (λ byte. byte == sign) text
 
--- three or more backticks without others after them in the line, or three or more tildes
-abbrev pub is_opening_by : ℕ → Text → Bool
-is_opening_by sign text =
-    nat_le 3 (count_of sign text) && (sign == 126 || prefix_len (λ byte. not (byte == sign)) (drop (count_of sign text) text)
-    == length (drop (count_of sign text) text))
+abbrev pub has_none : ℕ → Text → Bool
+has_none sign [] = true
+has_none sign (b ∷ bytes) = if b == sign then false else has_none sign bytes
+
+-- the fence that a text begins with: three or more backticks without others after them in the line, or three or more tildes
+abbrev pub opening_by : ℕ → Text → Option Fence
+opening_by sign text =
+    if nat_lt (count_of sign text) 3 then None
+    else if sign == 126 || has_none sign (drop (count_of sign text) text) then Some (record { sign = sign; count = count_of sign text })
+    else None
 
 -- Only a fence stands in a line, which is as long as this one, or longer.
 abbrev pub is_closing_by : Fence → Text → Bool
 is_closing_by fence text =
     nat_le fence.count (count_of fence.sign text) && length (after_run is_white (drop (count_of fence.sign text) text)) == 0
 
--- where a line stands that these bytes begin
-abbrev pub opened_by : ℕ → Text → DocPlace
-opened_by sign text =
-    if not (is_opening_by sign text) then Outside
-    else if is_rust (drop (count_of sign text) text) then Example (record { sign = sign; count = count_of sign text })
-    else Block (record { sign = sign; count = count_of sign text })
+abbrev pub opened_by : Option Fence → Text → DocPlace
+opened_by None text = Outside
+opened_by (Some fence) text = if is_rust (drop fence.count text) then Example fence else Block fence
 
+abbrev pub sign_of : Text → ℕ
+sign_of [] = 126
+sign_of (b ∷ bytes) = if b == 96 then 96 else 126
+
+-- a line from its first byte on that isn't white
+abbrev pub code_in : Text → Text
+code_in line = after_run is_white line
+
+-- the place after a line that may open a block
 abbrev pub opened : Text → DocPlace
-opened [] = Outside
-opened (b ∷ bytes) = if b == 96 || b == 126 then opened_by b (b ∷ bytes) else Outside
+opened text = opened_by (opening_by (sign_of text) text) text
 
 -- the place after a line that stands at another
 abbrev pub place_after : DocPlace → Text → DocPlace

@@ -4,12 +4,12 @@ mod code;
 mod fence;
 mod info;
 mod line;
+mod place;
 
 use crate::class::{ByteSet, after_run};
 use crate::doc_tests::code::push_code;
-use crate::doc_tests::fence::{Fence, closes, opening_of};
-use crate::doc_tests::info::is_rust;
 use crate::doc_tests::line::{DocLine, doc_line};
+use crate::doc_tests::place::{DocPlace, is_in_example, place_after};
 use crate::piece::PlacedToken;
 use std::alloc::{AllocError, Global};
 
@@ -21,17 +21,6 @@ pub struct DocTest {
     pub code: Vec<u8>,
 }
 
-/// Where a line of a doc comment stands.
-#[derive(Clone, Copy)]
-pub enum DocPlace {
-    /// In no block of code.
-    Outside,
-    /// In an example, which this fence closes.
-    Example(Fence),
-    /// In another block, which this fence closes.
-    Block(Fence),
-}
-
 /// Whether a line of a doc comment follows another one of it: only white bytes are between them.
 fn goes_on(source: &[u8], before: Option<DocLine<'_>>, line: DocLine<'_>) -> bool {
     let Some(before) = before else {
@@ -41,25 +30,6 @@ fn goes_on(source: &[u8], before: Option<DocLine<'_>>, line: DocLine<'_>) -> boo
         Some(between) => before.side == line.side && after_run(ByteSet::White, between).is_empty(),
         None => false,
     }
-}
-
-// The place after a line that may open a block.
-fn opened(
-    alloc: Global,
-    tests: &mut Vec<DocTest>,
-    line: DocLine<'_>,
-) -> Result<DocPlace, AllocError> {
-    let Some(opening) = opening_of(line.text) else {
-        return Ok(DocPlace::Outside);
-    };
-    if !is_rust(opening.info) {
-        return Ok(DocPlace::Block(opening.fence));
-    }
-    tests.push(DocTest {
-        start: line.piece.end,
-        code: Vec::new(alloc),
-    })?;
-    Ok(DocPlace::Example(opening.fence))
 }
 
 // Adds a line to the last example.
@@ -76,29 +46,26 @@ fn push_line(tests: &mut Vec<DocTest>, source: &[u8], line: DocLine<'_>) -> Resu
     Ok(())
 }
 
-// The place after a line that stands at another.
-fn place_after(
+// Adds what a line that stands between two places says: a line of the example, or the start of another.
+fn push_any(
     alloc: Global,
     tests: &mut Vec<DocTest>,
     source: &[u8],
     place: DocPlace,
+    now: DocPlace,
     line: DocLine<'_>,
-) -> Result<DocPlace, AllocError> {
-    match place {
-        DocPlace::Outside => opened(alloc, tests, line),
-        DocPlace::Block(fence) => Ok(if closes(fence, line.text) {
-            DocPlace::Outside
-        } else {
-            place
-        }),
-        DocPlace::Example(fence) => {
-            if closes(fence, line.text) {
-                return Ok(DocPlace::Outside);
-            }
-            push_line(tests, source, line)?;
-            Ok(place)
-        }
+) -> Result<(), AllocError> {
+    if !is_in_example(now) {
+        return Ok(());
     }
+    if is_in_example(place) {
+        return push_line(tests, source, line);
+    }
+    tests.push(DocTest {
+        start: line.piece.end,
+        code: Vec::new(alloc),
+    })?;
+    Ok(())
 }
 
 /// The examples in these comments of a source, in order. An `Err` says that memory ran out.
@@ -119,7 +86,9 @@ pub fn doc_tests_of(
                 } else {
                     DocPlace::Outside
                 };
-                place_after(alloc, &mut tests, source, start, line)?
+                let now = place_after(start, line.text);
+                push_any(alloc, &mut tests, source, start, now, line)?;
+                now
             }
             None => DocPlace::Outside,
         };

@@ -7,7 +7,6 @@ ghost use Rattle.timefd_lint_scan.specs.DocTests as spec;
 
 use crate::class::{ByteSet, after_run};
 use crate::line::from;
-use memchr::memchr;
 
 /// At least this many signs are a fence.
 const FEWEST_SIGNS: usize = 3;
@@ -17,14 +16,6 @@ const FEWEST_SIGNS: usize = 3;
 pub struct Fence {
     pub sign: u8,
     pub count: usize,
-}
-
-/// A line that opens a block.
-#[derive(Clone, Copy)]
-pub struct Opening<'a> {
-    pub fence: Fence,
-    /// What stands after the fence.
-    pub info: &'a [u8],
 }
 
 /// How many of these bytes a text begins with.
@@ -44,25 +35,32 @@ fn count_of(text: &[u8], sign: u8) -> usize
     count
 }
 
-/// The fence that a line opens a block with, if it does. After backticks there are no others in the line.
-pub fn opening_of(line: &[u8]) -> Option<Opening<'_>> {
-    let text = after_run(ByteSet::White, line);
-    let sign = match text {
-        [b'`', ..] => b'`',
-        _ => b'~',
-    };
+// Whether a text has none of these bytes.
+fn has_none(text: &[u8], sign: u8) -> bool
+    ensures { result ≡ spec.has_none sign text.now }
+{
+    let mut rest = text;
+    'bytes: while let [byte, after @ ..] = rest {
+        if *byte == sign {
+            return false;
+        }
+        rest = after;
+    }
+    true
+}
+
+/// The fence of these signs that a text begins with, if it opens a block: after backticks there are no others in the line.
+pub fn opening_by(sign: u8, text: &[u8]) -> Option<Fence>
+    ensures { result ≡ spec.opening_by sign text.now }
+{
     let count = count_of(text, sign);
     if count < FEWEST_SIGNS {
         return None;
     }
-    let info = from(text, count);
-    match memchr(sign, info) {
-        Some(_) if sign == b'`' => None,
-        Some(_) | None => Some(Opening {
-            fence: Fence { sign, count },
-            info,
-        }),
+    if sign == b'~' || has_none(from(text, count), sign) {
+        return Some(Fence { sign, count });
     }
+    None
 }
 
 /// Whether a line closes the block that a fence has opened: it has only that fence, or a longer one.

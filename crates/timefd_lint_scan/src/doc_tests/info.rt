@@ -1,6 +1,6 @@
 //! The words after a fence, which say whether a block is an example that rustdoc compiles.
 
-ghost use Rattle.std.specs.Prelude.{◌≡◌, ◌≤◌, length};
+ghost use Rattle.std.specs.Prelude.{◌≡◌, ◌≤◌, length, take};
 ghost use Rattle.timefd_lint_scan.specs.DocTests as spec;
 
 use crate::class::is_white;
@@ -92,21 +92,33 @@ fn word_end(text: &[u8]) -> usize
     end
 }
 
-/// Whether a block with these words after its fence is an example of Rust that has to compile.
-pub fn is_rust(info: &[u8]) -> bool {
-    let mut verdict = Verdict::Unsaid;
-    let mut rest = info;
-    'words: while !rest.is_empty() {
-        let end = word_end(rest);
-        verdict = after_word(verdict, from_start(rest, end));
-        rest = from(rest, end + 1);
-    }
+// The front of a text, up to an index.
+fn front(text: &[u8], end: usize) -> &[u8]
+    ensures { result.now ≡ take end text.now }
+{
+    text.get(..end).unwrap_or(text)
+}
+
+fn takes(verdict: Verdict) -> bool
+    ensures { result ≡ spec.takes verdict }
+{
     match verdict {
         Verdict::Unsaid | Verdict::Rust => true,
         Verdict::Other | Verdict::Failing => false,
     }
 }
 
-fn from_start(text: &[u8], end: usize) -> &[u8] {
-    text.get(..end).unwrap_or(text)
+/// Whether a block with these words after its fence is an example of Rust that has to compile.
+#[tactic(auto, using(crate::proofs::DocTestLemmas::all_left))]
+pub fn is_rust(info: &[u8]) -> bool
+    ensures { result ≡ spec.is_rust info.now }
+{
+    let mut verdict = Verdict::Unsaid;
+    let mut rest = info;
+    'words: while !rest.is_empty() {
+        let end = word_end(rest);
+        verdict = after_word(verdict, front(rest, end));
+        rest = from(rest, end + 1);
+    }
+    takes(verdict)
 }
