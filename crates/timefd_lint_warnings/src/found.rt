@@ -11,7 +11,7 @@ ghost use Rattle.timefd_lang_node_list.specs.Leaves.{leaves_in};
 ghost use Rattle.timefd_lint_warnings.specs.Found as spec;
 
 use std::alloc::{AllocError, Global};
-use timefd_lang_warnings::{LanguageStyle, Level, Levels, ReadDescription};
+use timefd_lang_warnings::{LanguageStyle, Levels, ReadDescription};
 use timefd_parse::{
     BorrowedOutput, DescriptionVersion, Language, NESTING_LIMIT, StrftimeTables,
     parse_all_borrowed, parse_strftime_all_borrowed,
@@ -31,23 +31,6 @@ pub fn found_in(
     match language {
         Language::Version(version) => found_in_version(alloc, version, text, levels),
         Language::Strftime => found_in_strftime(alloc, text, levels),
-    }
-}
-
-/// The levels of the warnings that a text has, if warnings are asked for. With `None` every warning
-/// is allowed. An `Err` says that memory ran out.
-pub fn found_by(
-    alloc: Global,
-    levels: Option<Levels>,
-    language: Language,
-    text: &str,
-) -> Result<Levels, AllocError>
-    ensures { (list : List Tree) → SpellsIn language nesting_limit text.now list
-        → IfOk result (λ reported. reported ≡ spec.found_by levels language list) }
-{
-    match levels {
-        Some(levels) => found_in(alloc, language, text, levels),
-        None => Ok(Levels::all_at(Level::Allowed)),
     }
 }
 
