@@ -2,7 +2,7 @@
 use Rattle.std.specs.Prelude.{◌≡◌, Bool, true, false, List, [], ◌++◌, codes, Option, Some, None}
 use denote.Ref.{Bor}
 use Rattle.timefd_lang_component.specs.Tree.{Text, Tree}
-use Rattle.timefd_lint_drawing.specs.declared.draw.Format.{Format}
+use Rattle.timefd_lint_drawing.specs.declared.form.Format.{Format}
 use Rattle.timefd_lint_drawing.specs.declared.position.Origin.{Origin}
 use Rattle.timefd_lint_warnings.specs.Found.{output_parts, style_of}
 use Rattle.timefd_lint_warnings.specs.Messages.{messages}

@@ -9,7 +9,8 @@ use Rattle.timefd_lint_drawing.specs.declared.draw.Style.{Style}
 use Rattle.timefd_lint_drawing.specs.declared.finding.FindingKind.TheVariants.{Labelled}
 use Rattle.timefd_lint_drawing.specs.declared.position.Origin.{Origin}
 use Rattle.timefd_lint_drawing.specs.declared.severity.FindingSeverity.{FindingSeverity}
-use Rattle.timefd_lint_drawing.specs.Findings.{Located, drawn_at}
+use Rattle.timefd_lint_drawing.specs.Findings.{Located}
+use Rattle.timefd_lint_drawing.specs.Forms.{drawn_at}
 use Rattle.timefd_lint_warnings.specs.Hints.{help_on}
 use Rattle.timefd_lint_warnings.specs.Messages.{located, message, said, severity}
 

@@ -5,7 +5,7 @@ use Rattle.timefd_lang_dialect.specs.declared.error.RefusedPart.{RefusedPart}
 use Rattle.timefd_lang_dialect.specs.declared.trapping.Found.{Found}
 use Rattle.timefd_lang_dialect.specs.Reasons as reasons
 use Rattle.timefd_lang_dialect.specs.TrapWords as traps
-use Rattle.timefd_lint_drawing.specs.Sarif.{with_help}
+use Rattle.timefd_lint_drawing.specs.Findings.{with_help}
 use Rattle.timefd_lint_lsp.specs.declared.editor.finding.Finding.{Finding}
 use Rattle.timefd_lint_lsp.specs.declared.editor.finding.Severity.TheVariants.{Error, Warning}
 use Rattle.timefd_lint_lsp.specs.Editor.Finding.{IsOne}

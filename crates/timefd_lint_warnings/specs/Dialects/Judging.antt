@@ -12,7 +12,8 @@ use Rattle.timefd_lint_drawing.specs.declared.position.Origin.{Origin}
 use Rattle.timefd_lint_drawing.specs.declared.severity.FindingSeverity.{FindingSeverity}
 use Rattle.timefd_lint_drawing.specs.declared.severity.FindingSeverity.TheVariants.{Error, Warning}
 use Rattle.timefd_lint_drawing.specs.Drawing.{part_at, part_end}
-use Rattle.timefd_lint_drawing.specs.Findings.{Said, drawn_at}
+use Rattle.timefd_lint_drawing.specs.Findings.{Said}
+use Rattle.timefd_lint_drawing.specs.Forms.{drawn_at}
 
 -- what is found in a part of a text
 abbrev pub drawn : Style → Origin → Text → Span → Said → Text
