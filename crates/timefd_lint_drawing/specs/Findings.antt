@@ -1,7 +1,7 @@
 -- What is found in a text or said of a file.
 use Rattle.std.specs.Prelude.{Bool, true, false, ◌++◌, Option, None, Some, codes, option_map}
 use Rattle.timefd_lang_component.specs.Tree.{Text}
-use Rattle.timefd_lint_diagnosis.specs.declared.span.Span.{Span}
+use Rattle.timefd_lint_diagnosis.specs.declared.diagnostic.Span.{Span}
 use Rattle.timefd_lint_drawing.specs.declared.finding.FindingWords.{FindingWords}
 use Rattle.timefd_lint_drawing.specs.declared.finding.FindingKind.{FindingKind}
 use Rattle.timefd_lint_drawing.specs.declared.finding.FindingKind.TheVariants.{Fault, Further, Labelled, Aside}
