@@ -5,8 +5,8 @@ use Rattle.timefd_lang_component.specs.Tree.{Text, Tree}
 use Rattle.timefd_lang_fault.specs.Faults.{Fault}
 use Rattle.timefd_lang_fault.specs.Sentences.{sentence}
 use Rattle.timefd_language.specs.declared.description_version.DescriptionVersion.TheVariants.{One, Two, Three}
-use Rattle.timefd_language.specs.declared.language.Language.{Language}
-use Rattle.timefd_language.specs.declared.language.Language.TheVariants.{Version, Strftime}
+use Rattle.timefd_language.specs.declared.description_version.Language.{Language}
+use Rattle.timefd_language.specs.declared.description_version.Language.TheVariants.{Version, Strftime}
 use Rattle.timefd_parse.specs.Language.{SpellsIn, FaultIn, amount}
 use Rattle.timefd.specs.declared.kind.Kind.{Kind}
 use Rattle.timefd.specs.Kinds.{language_of}

@@ -6,7 +6,6 @@
 mod buffered;
 mod color;
 mod condition;
-mod failed;
 mod in_memory;
 mod sink;
 mod source;
@@ -15,8 +14,7 @@ mod words;
 
 pub use buffered::{BufferedError, BufferedSource, FromBufReader};
 pub use color::{Environment, Variables, shows_colors};
-pub use failed::Failed;
 pub use in_memory::InMemory;
 pub use sink::{Sink, ToWriter};
-pub use source::{FromReader, Source};
+pub use source::{Failed, FromReader, Source};
 pub use words::{WordsError, borrowed, words_of};

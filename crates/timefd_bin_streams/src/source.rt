@@ -1,10 +1,13 @@
-//! Readers that keep failing once a call has failed.
+//! Readers that keep failing once a call has failed, and how they and writers fail.
 
 ghost use Rattle.std.specs.Prelude.{◌≡◌, ◌↔◌, ◌≤◌, ◌<◌, ℕ, Bool, List, Option, length, take, IfOk, IsErr, IsTrue, IsFalse};
 ghost use Rattle.std.specs.Io.KnownBytes.{Consumes, IsAtEnd};
 
-use crate::failed::Failed;
 use std::io::Read;
+
+/// A call failed. Every later call fails too.
+#[derive(Debug, Clone, Copy, PartialEq, Eq)]
+pub struct Failed;
 
 /// Where bytes come from.
 pub trait Source {

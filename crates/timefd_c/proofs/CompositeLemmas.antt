@@ -5,7 +5,7 @@ use Rattle.timefd_lang_component.specs.Tree.{Text, Tree}
 use Rattle.timefd_lang_fault.specs.Faults.{Fault}
 use Rattle.timefd_language.specs.Grammar.{nesting_limit}
 use Rattle.timefd_language.specs.Strftime.{SpellsStrftime}
-use Rattle.timefd_language.specs.declared.language.Language.TheVariants.{Strftime}
+use Rattle.timefd_language.specs.declared.description_version.Language.TheVariants.{Strftime}
 use Rattle.timefd_parse.specs.Language.{FaultIn}
 use Rattle.timefd_language.specs.declared.strftime.piece.StrftimePiece.{StrftimePiece}
 use Rattle.timefd_language.specs.Directives.PieceMeaning.{piece_tree}

@@ -7,8 +7,8 @@ use Rattle.timefd_language.specs.declared.description_version.DescriptionVersion
 use Rattle.timefd_lang_node_list.specs.Nodes.{kept_bytes}
 use Rattle.timefd_parse.proofs.CountingLemmas.{pack_sum}
 use Rattle.timefd_parse.specs.Language.{amount}
-use Rattle.timefd_language.specs.declared.language.Language.{Language}
-use Rattle.timefd_language.specs.declared.language.Language.TheVariants.{Version, Strftime}
+use Rattle.timefd_language.specs.declared.description_version.Language.{Language}
+use Rattle.timefd_language.specs.declared.description_version.Language.TheVariants.{Version, Strftime}
 use Rattle.timefd_c.specs.Reading.{IsLongest}
 use Rattle.timefd_c_nodes.specs.Reading.Reports.{longest}
 

@@ -7,14 +7,14 @@ use Rattle.timefd_c_nodes.specs.Decoding.{read_nodes}
 use Rattle.timefd_c_nodes.specs.Encoding.{nodes_from, literals_of, own_text}
 use Rattle.timefd_c_nodes.proofs.DecodeLemmas.{trees_back, tree_back}
 use Rattle.timefd_lang_fault.specs.Faults.{Fault}
-use Rattle.timefd_language.specs.declared.language.Language.{Language}
+use Rattle.timefd_language.specs.declared.description_version.Language.{Language}
 use Rattle.timefd_parse.specs.Language.{SpellsIn, FaultIn}
 use Rattle.timefd_c_nodes.specs.declared.node.RawNode.{RawNode}
 use Rattle.timefd_c.specs.declared.answer.TheConstants.{ACCEPTED, REFUSED}
 use Rattle.timefd_c.specs.declared.answer.ReadAnswer.{ReadAnswer}
 use Rattle.timefd_c_nodes.specs.declared.reading.report.ReadReport.{ReadReport}
 use Rattle.timefd_language.specs.declared.description_version.DescriptionVersion.TheVariants.{One, Two, Three}
-use Rattle.timefd_language.specs.declared.language.Language.TheVariants.{Version, Strftime}
+use Rattle.timefd_language.specs.declared.description_version.Language.TheVariants.{Version, Strftime}
 use Rattle.timefd_language.proofs.Reserved.{reserves_within_law}
 use Rattle.timefd_c_nodes.proofs.TreeLemmas.{walked_length}
 use Rattle.timefd_c.proofs.LongestLemmas.{is_longest, three_reserved}

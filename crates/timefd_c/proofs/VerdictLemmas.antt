@@ -7,7 +7,7 @@ use Rattle.timefd_lang_fault.specs.RuleKinds.{rule_kind}
 use Rattle.timefd_language.specs.Grammar.{nesting_limit}
 use Rattle.timefd_parse.proofs.AmountLemmas.{short_in}
 use Rattle.timefd_lang_component.specs.Tree.{Text, Tree}
-use Rattle.timefd_language.specs.declared.language.Language.{Language}
+use Rattle.timefd_language.specs.declared.description_version.Language.{Language}
 use Rattle.timefd_parse.specs.Language.{takes_memory}
 use Rattle.timefd_c.specs.declared.verdict.TextVerdict.{TextVerdict}
 use Rattle.timefd_c.specs.declared.verdict.TextVerdict.TheVariants.{Accepted, Refused, NotUtf8, NoMemory, UnknownKind}

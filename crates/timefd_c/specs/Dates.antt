@@ -9,7 +9,7 @@ use Rattle.timefd_c_nodes.specs.Encoding.{component_node}
 use Rattle.timefd_lang_component.specs.Tree.{Text, Tree}
 use Rattle.timefd_lang_fault.specs.Faults.{Fault}
 use Rattle.timefd_date_moment.specs.declared.moment.Moment.{Moment}
-use Rattle.timefd_language.specs.declared.language.Language.{Language}
+use Rattle.timefd_language.specs.declared.description_version.Language.{Language}
 use Rattle.timefd_date_moment.specs.declared.fields.fault.ReadError.{ReadError}
 use Rattle.timefd_date_moment.specs.declared.fields.fault.UnreadReason.{UnreadReason}
 use Rattle.timefd_date_moment.specs.declared.fields.fault.UnreadReason.TheVariants as for

@@ -2,7 +2,7 @@
 use Rattle.std.specs.Prelude.{ℕ, ◌≡◌, ◌≤◌, ◌<◌, ◌++◌, true, false, Option, Some, None, length, drop}
 use Rattle.timefd_lang_component.specs.Tree.{Text}
 use Rattle.timefd_lang_fault.specs.Faults.{Fault}
-use Rattle.timefd_language.specs.declared.language.Language.{Language}
+use Rattle.timefd_language.specs.declared.description_version.Language.{Language}
 use Rattle.timefd_lang_fault.specs.Codes.{code_of}
 use Rattle.timefd_lint_diagnosis.specs.Helps.{IsHelpFor, nearest_in}
 use Rattle.timefd_language.specs.Spans.{end_of}

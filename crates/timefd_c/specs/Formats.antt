@@ -11,12 +11,12 @@ use Rattle.timefd_lang_component.specs.Tree.{Text, Tree, trees}
 use Rattle.timefd_lang_fault.specs.Faults.{Fault}
 use Rattle.timefd_date_format.specs.declared.field.Lack.{Lack}
 use Rattle.timefd_date_format.specs.declared.field.Lack.TheVariants as lacks
-use Rattle.timefd_date_format.specs.declared.unshown.Unshown.{Unshown}
+use Rattle.timefd_date_format.specs.declared.field.Unshown.{Unshown}
 use Rattle.timefd_date_format.specs.Written.{written_all}
 use Rattle.timefd_date_moment.specs.declared.component_range.ComponentRange.{ComponentRange}
 use Rattle.timefd_date_moment.specs.declared.component_range.ComponentRange.TheVariants as ranges
 use Rattle.timefd_date_moment.specs.declared.moment.Moment.{Moment}
-use Rattle.timefd_language.specs.declared.language.Language.{Language}
+use Rattle.timefd_language.specs.declared.description_version.Language.{Language}
 
 -- the number of the reason why a component shows nothing
 abbrev pub lack_number : Lack → ℕ

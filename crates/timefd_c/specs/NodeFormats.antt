@@ -9,7 +9,7 @@ use Rattle.timefd_c.specs.Moments.{IsMoment, range_fault}
 use Rattle.timefd_c_nodes.specs.Formatting.Nodes.{node_fault, node_trees}
 use Rattle.timefd_c_nodes.specs.declared.node.RawNode.{RawNode}
 use Rattle.timefd_lang_component.specs.Tree.{Text, trees}
-use Rattle.timefd_date_format.specs.declared.unshown.Unshown.{Unshown}
+use Rattle.timefd_date_format.specs.declared.field.Unshown.{Unshown}
 use Rattle.timefd_date_format.specs.Written.{written_all}
 use Rattle.timefd_date_moment.specs.declared.component_range.ComponentRange.{ComponentRange}
 use Rattle.timefd_date_moment.specs.declared.moment.Moment.{Moment}

@@ -8,7 +8,7 @@ use Rattle.timefd_lang_component.specs.Tree.{Text, Tree}
 use Rattle.timefd_lang_fault.specs.Faults.{Fault}
 use Rattle.timefd_lint_warnings.specs.Found.{style_of}
 use Rattle.timefd_lang_node_list.specs.Leaves.{leaves_in}
-use Rattle.timefd_language.specs.declared.language.Language.{Language}
+use Rattle.timefd_language.specs.declared.description_version.Language.{Language}
 use Rattle.timefd_parse.specs.Language.{amount}
 use Rattle.timefd_lang_warnings.specs.declared.levels.Level.{Level}
 use Rattle.timefd_lang_warnings.specs.declared.levels.Level.TheVariants.{Allowed, Warned, Denied}

@@ -1,7 +1,7 @@
 -- What is appended to a text in a buffer.
 use Rattle.std.proofs.Common.{ℕ, zero, suc, ◌≡◌, ◌∙◌, ◌+◌, ◌-◌, ◌≤◌, [], ◌∷◌, ◌++◌, length, take, drop, Option, Some, None, Result, Ok, Err, refl, sym, ap, subst, arith, append_assoc, append-nil, length-append, length-take, length-drop}
 use Rattle.timefd_lang_component.specs.Tree.{Text}
-use Rattle.timefd_date_format.specs.declared.unshown.Unshown.{Unshown}
+use Rattle.timefd_date_format.specs.declared.field.Unshown.{Unshown}
 use Rattle.timefd_date_format.specs.Outcomes.{IsOutcome}
 use Rattle.timefd_date_format.proofs.OutcomeLemmas.{ends_with}
 use Rattle.std.proofs.Math.Seq.{drop-append_seam}

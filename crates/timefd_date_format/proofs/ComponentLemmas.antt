@@ -8,7 +8,7 @@ use Rattle.timefd_date_format.specs.declared.field.WrittenField.{WrittenField}
 use Rattle.timefd_date_format.specs.declared.field.Lack.{Lack}
 use Rattle.timefd_date_format.specs.declared.cursor.WriteCursor.{WriteCursor}
 use Rattle.timefd_date_format.specs.declared.cursor.WriteCursor.TheVariants as cursor
-use Rattle.timefd_date_format.specs.declared.unshown.Unshown.{Unshown}
+use Rattle.timefd_date_format.specs.declared.field.Unshown.{Unshown}
 use Rattle.timefd_date_format.specs.Fields.{field, field_text}
 use Rattle.timefd_date_format.specs.Puts.{Puts}
 use Rattle.timefd_date_format.specs.Writes.{IsLeftOut, IsNotAt, PutsShown, Writes}

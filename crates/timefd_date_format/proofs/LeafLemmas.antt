@@ -8,7 +8,7 @@ use Rattle.timefd_date_moment.specs.declared.moment.Moment.{Moment}
 use Rattle.timefd_lang_node_list.specs.Leaves.{leaves, leaves_all, leaves_first}
 use Rattle.timefd_date_format.specs.declared.cursor.WriteCursor.{WriteCursor}
 use Rattle.timefd_date_format.specs.declared.cursor.WriteCursor.TheVariants as cursor
-use Rattle.timefd_date_format.specs.declared.unshown.Unshown.{Unshown}
+use Rattle.timefd_date_format.specs.declared.field.Unshown.{Unshown}
 use Rattle.timefd_date_format.specs.Writes.{IsIn, Writes}
 use Rattle.timefd_date_format.specs.Written.{written, written_all, written_first, followed, shown}
 use Rattle.timefd_date_format.proofs.Utf8Lemmas.{followed_utf8}

@@ -9,7 +9,7 @@ use Rattle.timefd_lang_component.proofs.ModernLemmas.{modern_again}
 use Rattle.timefd_modifier.specs.declared.enums.SubsecondDigits.{SubsecondDigits}
 use Rattle.timefd_date_moment.specs.declared.moment.Moment.{Moment}
 use Rattle.timefd_lang_node_list.specs.Nodes.{kept_bytes}
-use Rattle.timefd_date_format.specs.declared.unshown.Unshown.{Unshown}
+use Rattle.timefd_date_format.specs.declared.field.Unshown.{Unshown}
 use Rattle.timefd_date_format.specs.declared.write.FormatError.TheVariants as fails
 use Rattle.timefd_date_format.specs.Fields.{field}
 use Rattle.timefd_date_format.specs.Outcomes.{IsOutcome}

@@ -1,7 +1,7 @@
 -- Texts whose length is found first.
 use Rattle.std.proofs.Common.{ℕ, ◌≡◌, ◌∙◌, ◌-◌, ◌^◌, ◌<◌, ◌≤◌, ◌++◌, length, take, drop, Result, Ok, Err, refl, ap, arith, length-take}
 use Rattle.timefd_lang_component.specs.Tree.{Text}
-use Rattle.timefd_date_format.specs.declared.unshown.Unshown.{Unshown}
+use Rattle.timefd_date_format.specs.declared.field.Unshown.{Unshown}
 use Rattle.timefd_date_format.specs.declared.write.FormatError.{FormatError}
 use Rattle.timefd_date_format.specs.declared.write.FormatError.TheVariants as fails
 use Rattle.timefd_date_format.specs.Fronts.{IsFront, IsLen}

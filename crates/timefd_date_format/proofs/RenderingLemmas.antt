@@ -14,7 +14,7 @@ use Rattle.timefd_date_moment.specs.declared.unix_time.UnixTime.{UnixTime}
 use Rattle.timefd_date_moment.specs.Moments.{unix_time}
 use Rattle.timefd_date_format.specs.declared.field.WrittenField.{WrittenField}
 use Rattle.timefd_date_format.specs.declared.field.Lack.{Lack}
-use Rattle.timefd_date_format.specs.declared.unshown.Unshown.{Unshown}
+use Rattle.timefd_date_format.specs.declared.field.Unshown.{Unshown}
 use Rattle.timefd_date_format.specs.Fields.{field, field_text, on_date, on_time, on_offset, instant_field}
 use Rattle.timefd_date_format.specs.Laws.{IsTextOf, IsMinusZero, RendersBy, RendersAllBy, RendersFirstBy, IsFormatted, HasHours, HasMillisecond, HasMilliseconds, HasNoMinusZero}
 use Rattle.timefd_date_format.specs.Written.{written, written_all, written_first, followed, text_of, shown}

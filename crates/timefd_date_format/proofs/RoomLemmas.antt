@@ -12,7 +12,7 @@ use Rattle.timefd_lang_component.proofs.Greatest.{longest_at}
 use Rattle.timefd_date_moment.specs.declared.moment.Moment.{Moment}
 use Rattle.timefd_date_format.specs.declared.field.WrittenField.{WrittenField}
 use Rattle.timefd_date_format.specs.declared.field.Lack.{Lack}
-use Rattle.timefd_date_format.specs.declared.unshown.Unshown.{Unshown}
+use Rattle.timefd_date_format.specs.declared.field.Unshown.{Unshown}
 use Rattle.timefd_date_format.specs.Fields.{field, field_text}
 use Rattle.timefd_date_format.specs.Laws.{IsTextOf, IsMinusZero}
 use Rattle.timefd_date_format.specs.Written.{written, written_all, written_first, followed, text_of, shown}

@@ -11,7 +11,7 @@ use Rattle.timefd_lang_component.specs.Tree.{Text, Trees}
 use Rattle.timefd_date_moment.specs.declared.moment.Moment.{Moment}
 use Rattle.timefd_date_format.specs.Answers.{IsAnswer, AreBytes}
 use Rattle.timefd_date_format.specs.declared.text.TextError.TheVariants as reported
-use Rattle.timefd_date_format.specs.declared.unshown.Unshown.{Unshown}
+use Rattle.timefd_date_format.specs.declared.field.Unshown.{Unshown}
 use Rattle.timefd_date_format.specs.declared.output.OutputError.TheVariants as fails
 use Rattle.timefd_date_format.specs.declared.text.TextError.{TextError}
 use Rattle.timefd_date_format.specs.Literals.{HaveUtf8Literals}

@@ -6,7 +6,7 @@ use Rattle.timefd_lang_component.specs.Tree.{Text, Tree, trees}
 use Rattle.timefd_date_moment.specs.declared.moment.Moment.{Moment}
 use Rattle.timefd_date_format.specs.declared.cursor.WriteCursor.{WriteCursor}
 use Rattle.timefd_date_format.specs.declared.cursor.WriteCursor.TheVariants as cursor
-use Rattle.timefd_date_format.specs.declared.unshown.Unshown.{Unshown}
+use Rattle.timefd_date_format.specs.declared.field.Unshown.{Unshown}
 use Rattle.timefd_date_format.specs.Puts.{Puts}
 use Rattle.timefd_date_format.specs.Writes.{IsIn, PutsOn, Writes}
 use Rattle.timefd_date_format.specs.Written.{written, written_all, followed}

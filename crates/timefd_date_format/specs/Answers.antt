@@ -6,7 +6,7 @@ use Rattle.std.specs.declared.alloc.Global.{Global}
 use Rattle.timefd_lang_component.specs.Tree.{Text}
 use Rattle.timefd_date_format.specs.declared.text.TextError.{TextError}
 use Rattle.timefd_date_format.specs.declared.text.TextError.TheVariants as fails
-use Rattle.timefd_date_format.specs.declared.unshown.Unshown.{Unshown}
+use Rattle.timefd_date_format.specs.declared.field.Unshown.{Unshown}
 
 -- Either the text is returned, or the first component that shows nothing, or memory ran out.
 abbrev pub IsAnswer : Result Text Unshown → Result (String Global) TextError → Type 0

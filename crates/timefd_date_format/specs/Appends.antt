@@ -1,6 +1,6 @@
 -- What is appended to a text in a buffer.
 use Rattle.std.specs.Prelude.{ℕ, ◌≡◌, ◌+◌, ◌++◌, length, take, Option, Some, None, Result, Ok, Err}
-use Rattle.timefd_date_format.specs.declared.unshown.Unshown.{Unshown}
+use Rattle.timefd_date_format.specs.declared.field.Unshown.{Unshown}
 use Rattle.timefd_lang_component.specs.Tree.{Text}
 
 -- The text follows what was in front of `at`, and ends at `end`. Nothing is promised about what follows it.

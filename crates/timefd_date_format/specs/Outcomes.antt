@@ -1,7 +1,7 @@
 -- How the result of a call relates to what was to be written.
 use Rattle.std.specs.Prelude.{ℕ, ◌≡◌, ◌+◌, ◌<◌, ◌++◌, length, take, Result, Ok, Err}
 use Rattle.timefd_lang_component.specs.Tree.{Text}
-use Rattle.timefd_date_format.specs.declared.unshown.Unshown.{Unshown}
+use Rattle.timefd_date_format.specs.declared.field.Unshown.{Unshown}
 use Rattle.timefd_date_format.specs.declared.write.FormatError.{FormatError}
 use Rattle.timefd_date_format.specs.declared.write.FormatError.TheVariants as fails
 

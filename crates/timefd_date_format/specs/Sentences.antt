@@ -5,7 +5,7 @@ use Rattle.timefd_lang_component.specs.declared.component.Component.TheVariants.
 use Rattle.timefd_lang_component.specs.Tree.{Text}
 use Rattle.timefd_date_format.specs.declared.field.Lack.{Lack}
 use Rattle.timefd_date_format.specs.declared.field.Lack.TheVariants as lack
-use Rattle.timefd_date_format.specs.declared.unshown.Unshown.{Unshown}
+use Rattle.timefd_date_format.specs.declared.field.Unshown.{Unshown}
 use Rattle.timefd_date_format.specs.declared.write.FormatError.{FormatError}
 use Rattle.timefd_date_format.specs.declared.write.FormatError.TheVariants as fails
 use Rattle.timefd_date_format.specs.declared.text.TextError.{TextError}

@@ -3,7 +3,7 @@ use Rattle.std.specs.Prelude.{ℕ, ◌≡◌, ◌≤◌, Some, None, Option, Res
 use Rattle.timefd_lang_component.specs.Tree.{Text}
 use Rattle.timefd_date_format.specs.declared.cursor.WriteCursor.{WriteCursor}
 use Rattle.timefd_date_format.specs.declared.cursor.WriteCursor.TheVariants as cursor
-use Rattle.timefd_date_format.specs.declared.unshown.Unshown.{Unshown}
+use Rattle.timefd_date_format.specs.declared.field.Unshown.{Unshown}
 use Rattle.timefd_date_format.specs.Puts.{Puts}
 
 -- The position is in a buffer of this size.

@@ -7,7 +7,7 @@ use Rattle.timefd_lang_component.specs.Tree.{Text, Tree, component, literal, com
 use Rattle.timefd_date_moment.specs.declared.moment.Moment.{Moment}
 use Rattle.timefd_date_format.specs.declared.field.WrittenField.{WrittenField}
 use Rattle.timefd_date_format.specs.declared.field.Lack.{Lack}
-use Rattle.timefd_date_format.specs.declared.unshown.Unshown.{Unshown}
+use Rattle.timefd_date_format.specs.declared.field.Unshown.{Unshown}
 use Rattle.timefd_date_format.specs.Fields.{field, field_text}
 
 abbrev pub text_of : Component → Result WrittenField Lack → Result Text Unshown

@@ -5,9 +5,9 @@ ghost use Rattle.timefd_date_format.specs.Writes.{IsIn, IsLeftOut, PutsShown, Wr
 ghost use Rattle.timefd_date_format.specs.Written.{shown};
 
 use crate::cursor::WriteCursor;
+use crate::field::Unshown;
 use crate::put_field::put_field;
 use crate::shown::field;
-use crate::unshown::Unshown;
 use timefd_date_moment::Moment;
 use timefd_lang_component::Component;
 

@@ -3,8 +3,8 @@
 ghost use Rattle.timefd_date_format.specs.Writes.{IsIn, PutsOn};
 ghost use Rattle.std.specs.Prelude.{length};
 
+use crate::field::Unshown;
 use crate::put::put;
-use crate::unshown::Unshown;
 
 /// How far a buffer is written, counted from its end.
 #[derive(Clone, Copy)]

@@ -1,4 +1,4 @@
-//! What a component shows.
+//! What a component shows, or why it shows nothing.
 
 ghost use Rattle.std.specs.Prelude.{◌≡◌, ◌≤◌, IfOk};
 
@@ -60,4 +60,11 @@ pub enum Lack {
     YearTooLong,
     /// In UTC the instant is outside of the years -999,999 to 999,999.
     InstantOutOfRange,
+}
+
+/// A component, in its modern form, that shows nothing of a value, and why.
+#[derive(Debug, Clone, Copy)]
+pub struct Unshown {
+    pub component: Component,
+    pub lack: Lack,
 }

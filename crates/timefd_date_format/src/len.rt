@@ -6,7 +6,7 @@ ghost use Rattle.timefd_date_format.specs.Fronts.{IsLen};
 ghost use Rattle.timefd_date_format.specs.Written.{followed, shown, written, written_all};
 ghost use Rattle.timefd_lang_node_list.specs.LeafMeaning.{leaf_tree};
 
-use crate::unshown::Unshown;
+use crate::field::Unshown;
 use crate::write::{FormatError, write_component};
 use timefd_date_moment::Moment;
 use timefd_lang_component::Component;

@@ -4,8 +4,8 @@ ghost use Rattle.timefd_date_format.specs.Written.{written};
 ghost use Rattle.timefd_lang_node_list.specs.Views.{view_tree};
 ghost use Rattle.timefd_date_format.specs.Sent.{IsSent};
 
+use crate::field::Unshown;
 use crate::text::{TextError, format};
-use crate::unshown::Unshown;
 use std::alloc::{AllocError, Global};
 use std::io;
 use timefd_date_moment::Moment;

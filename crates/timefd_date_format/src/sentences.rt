@@ -3,11 +3,10 @@
 ghost use Rattle.std.specs.Prelude.{Some};
 ghost use Rattle.timefd_date_format.specs.Sentences as spec;
 
-use crate::field::Lack;
+use crate::field::{Lack, Unshown};
 use crate::naming::component_name;
 use crate::output::OutputError;
 use crate::text::TextError;
-use crate::unshown::Unshown;
 use crate::write::FormatError;
 use std::error::Error;
 use std::fmt;

@@ -6,7 +6,7 @@ ghost use Rattle.timefd_date_format.specs.Answers.{IsAnswer};
 ghost use Rattle.timefd_date_format.specs.Written.{written};
 ghost use Rattle.timefd_lang_node_list.specs.Views.{view_tree};
 
-use crate::unshown::Unshown;
+use crate::field::Unshown;
 use crate::write::{FormatError, write_description};
 use std::alloc::{AllocError, Global};
 use timefd_date_moment::Moment;

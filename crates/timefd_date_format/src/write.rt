@@ -10,10 +10,10 @@ ghost use Rattle.timefd_date_format.specs.Written.{shown, written, written_all};
 ghost use Rattle.timefd_lang_node_list.specs.Views.{view_tree};
 
 use crate::cursor::WriteCursor;
+use crate::field::Unshown;
 use crate::items;
 use crate::put_field::put_field;
 use crate::shown::field;
-use crate::unshown::Unshown;
 use crate::view::write_view;
 use timefd_date_moment::Moment;
 use timefd_lang_component::Component;

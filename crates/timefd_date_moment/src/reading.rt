@@ -2,7 +2,6 @@
 //! read from a text.
 
 mod agreed;
-mod date_times;
 mod dates;
 mod day;
 mod days;
@@ -24,8 +23,7 @@ mod times;
 mod way;
 mod year;
 
-pub use date_times::date_time;
-pub use dates::date;
+pub use dates::{date, date_time};
 pub use error::ValueError;
 pub use instants::instant;
 pub use moments::moment;

@@ -10,8 +10,8 @@ use Rattle.timefd_items.specs.declared.format_description_v3.FormatDescriptionV3
 use Rattle.timefd_language.specs.Strftime.{SpellsStrftime, no_directives}
 use Rattle.timefd_parse.proofs.ParseLemmas.{one}
 use Rattle.timefd_parse.specs.Language.{FaultIn, SpellsIn}
-use Rattle.timefd_language.specs.declared.language.Language.{Language}
-use Rattle.timefd_language.specs.declared.language.Language.TheVariants.{Version, Strftime}
+use Rattle.timefd_language.specs.declared.description_version.Language.{Language}
+use Rattle.timefd_language.specs.declared.description_version.Language.TheVariants.{Version, Strftime}
 use Rattle.timefd_language.proofs.DirectiveLemmas.DirectiveLemmas.{one as strftime_one}
 use Rattle.timefd_description.specs.Parsed.{AreNodes, IsParsed}
 

@@ -4,7 +4,7 @@ use Rattle.std.specs.Bool.{⊤}
 use Rattle.std.proofs.lemmas.List.{drop-set, drop_all, take_all}
 use Rattle.timefd_lang_component.specs.Reserved.{reserve}
 use Rattle.timefd_lang_component.specs.Tree.{Text, Tree, trees}
-use Rattle.timefd_date_format.specs.declared.unshown.Unshown.{Unshown}
+use Rattle.timefd_date_format.specs.declared.field.Unshown.{Unshown}
 use Rattle.timefd_date_format.specs.declared.write.FormatError.{FormatError}
 use Rattle.timefd_date_format.specs.declared.write.FormatError.TheVariants as fails
 use Rattle.timefd_date_format.specs.Fronts.{IsFront, IsLen}

@@ -7,7 +7,7 @@ use Rattle.timefd_lang_component.specs.Tree.{Text}
 use Rattle.timefd_lang_fault.specs.Faults.{Fault}
 use Rattle.timefd_date_format.specs.declared.text.TextError.{TextError}
 use Rattle.timefd_date_format.specs.declared.text.TextError.TheVariants as texts
-use Rattle.timefd_date_format.specs.declared.unshown.Unshown.{Unshown}
+use Rattle.timefd_date_format.specs.declared.field.Unshown.{Unshown}
 use Rattle.timefd_description.specs.declared.format_error.FormatTextError.{FormatTextError}
 use Rattle.timefd_description.specs.declared.format_error.FormatTextError.TheVariants as fails
 

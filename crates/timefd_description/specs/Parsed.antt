@@ -8,7 +8,7 @@ use Rattle.timefd_lang_fault.specs.Faults.{Fault}
 use Rattle.timefd_items.specs.Description.{description_tree}
 use Rattle.timefd_items.specs.declared.format_description_v3.FormatDescriptionV3.{FormatDescriptionV3}
 use Rattle.timefd_parse.specs.Language.{FaultIn, SpellsIn}
-use Rattle.timefd_language.specs.declared.language.Language.{Language}
+use Rattle.timefd_language.specs.declared.description_version.Language.{Language}
 
 -- the nodes are these items as one tree
 abbrev pub AreNodes : List Tree → FormatDescriptionV3 → Type 0

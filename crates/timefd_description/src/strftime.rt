@@ -11,7 +11,7 @@ ghost use Rattle.timefd_lang_fault.specs.Faults as spec;
 ghost use Rattle.timefd_lang_fault.specs.ReadErrors.{MemoryOr};
 ghost use Rattle.timefd_language.specs.Grammar.{nesting_limit};
 ghost use Rattle.timefd_language.specs.Strftime.{SpellsStrftime};
-ghost use Rattle.timefd_language.specs.declared.language.Language.TheVariants.{Strftime};
+ghost use Rattle.timefd_language.specs.declared.description_version.Language.TheVariants.{Strftime};
 ghost use Rattle.timefd_language.specs.Directives.PieceMeaning.{piece_tree};
 ghost use Rattle.timefd_language.specs.Directives.StrftimeReading.{IsStrftimeFaultIn};
 ghost use Rattle.timefd_parse.specs.Language.{FaultIn, SpellsIn};

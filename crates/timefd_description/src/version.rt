@@ -12,7 +12,7 @@ ghost use Rattle.timefd_language.specs.Grammar.{nesting_limit};
 ghost use Rattle.timefd_language.specs.declared.description_version.DescriptionVersion.TheVariants.{Three};
 ghost use Rattle.timefd_parse.specs.Pieces.{IsLeaf, IsLeafTree};
 ghost use Rattle.timefd_parse.specs.Read.{IsFaultIn, PiecesToEnd};
-ghost use Rattle.timefd_language.specs.declared.language.Language.TheVariants.{Version};
+ghost use Rattle.timefd_language.specs.declared.description_version.Language.TheVariants.{Version};
 
 use crate::nodes::finished;
 use std::alloc::{AllocError, Global};

@@ -2,7 +2,7 @@
 use Rattle.std.proofs.Common.{ℕ, ◌≡◌, ◌∙◌, ◌≤◌, ◌++◌, List, [], ◌∷◌, Option, Some, None, Result, Ok, Err, length, take, map, refl, sym, ap, subst, arith, length-take}
 use Rattle.timefd_lang_component.specs.Tree.{Text, trees}
 use Rattle.timefd_date_format.specs.Appends.{IsAppended, TriesToAppend}
-use Rattle.timefd_date_format.specs.declared.unshown.Unshown.{Unshown}
+use Rattle.timefd_date_format.specs.declared.field.Unshown.{Unshown}
 use Rattle.timefd_date_format.specs.Written.{written, written_all}
 use Rattle.timefd_date_format.proofs.AppendLemmas.{both_appended}
 use Rattle.timefd_date_moment.specs.declared.moment.Moment.{Moment}

@@ -5,7 +5,7 @@ use Rattle.std.proofs.lemmas.Bool.Decides.{nat_tests}
 use Rattle.std.proofs.lemmas.List.Elements.{All-head}
 use Rattle.timefd_lang_component.specs.Tree.{Text, trees}
 use Rattle.timefd_date_format.specs.Appends.{IsAppended, IsKept, TriesToAppend}
-use Rattle.timefd_date_format.specs.declared.unshown.Unshown.{Unshown}
+use Rattle.timefd_date_format.specs.declared.field.Unshown.{Unshown}
 use Rattle.timefd_date_format.specs.Written.{written_all}
 use Rattle.timefd_date_format.proofs.AppendLemmas.{both_appended, kept, kept_after, part, tries_after}
 use Rattle.timefd_date_moment.specs.declared.moment.Moment.{Moment}

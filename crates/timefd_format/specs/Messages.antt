@@ -3,7 +3,7 @@ use Rattle.std.specs.Prelude.{ℕ, ◌≡◌, ◌⊎◌, ◌++◌, codes, Option
 use Rattle.std.specs.Fmt.{decimal}
 use Rattle.timefd_lang_component.specs.Tree.{Text}
 use Rattle.timefd_lint_drawing.specs.Shown.{safe}
-use Rattle.timefd_date_format.specs.declared.unshown.Unshown.{Unshown}
+use Rattle.timefd_date_format.specs.declared.field.Unshown.{Unshown}
 use Rattle.timefd_date_format.specs.Sentences.{unshown_sentence}
 use Rattle.timefd_date_moment.specs.Display.{offset_text}
 use Rattle.timefd_date_moment.specs.declared.fields.fault.ReadError.{ReadError}

@@ -7,7 +7,7 @@ use Rattle.timefd_lang_component.specs.Tree.{Text, trees}
 use Rattle.timefd_lang_component.specs.Reserved.{reserve}
 use Rattle.timefd_date_format.specs.declared.text.TextError.{TextError}
 use Rattle.timefd_date_format.specs.declared.text.TextError.TheVariants as fails
-use Rattle.timefd_date_format.specs.declared.unshown.Unshown.{Unshown}
+use Rattle.timefd_date_format.specs.declared.field.Unshown.{Unshown}
 use Rattle.timefd_date_format.specs.declared.write.FormatError.{FormatError}
 use Rattle.timefd_date_format.specs.declared.write.FormatError.TheVariants as lacks
 use Rattle.timefd_date_format.specs.Written.{written, written_all}

@@ -12,14 +12,14 @@ use Rattle.timefd_lang_convert.specs.declared.converting.ConvertError.TheVariant
 use Rattle.timefd_lang_convert.specs.Answers.{HasItemsOver, HasStrftimeItems, IsNormalOf, IsPrintedOf, IsWrittenOver, KeepsTree}
 use Rattle.timefd_lang_fault.specs.Faults.{Fault}
 use Rattle.timefd_language.specs.declared.description_version.DescriptionVersion.TheVariants.{One, Two, Three}
-use Rattle.timefd_lang_fault.specs.declared.parse_error.ParseError.{ParseError}
+use Rattle.timefd_lang_fault.specs.declared.borrowed_parse_error.ParseError.{ParseError}
 use Rattle.timefd_language.specs.Grammar.{nesting_limit}
 use Rattle.timefd_language.specs.Spans.{HasSpanWithin}
 use Rattle.timefd_lang_fault.specs.Reported.{IsFaultOrMemory}
 use Rattle.timefd_lift.specs.Answers.{HasItemsOf, IsRewritten, IsTextOrMemory}
 use Rattle.timefd_lift.specs.Modernized.{IsWrittenOf, KeepsItemsOf}
-use Rattle.timefd_language.specs.declared.language.Language.{Language}
-use Rattle.timefd_language.specs.declared.language.Language.TheVariants.{Version, Strftime}
+use Rattle.timefd_language.specs.declared.description_version.Language.{Language}
+use Rattle.timefd_language.specs.declared.description_version.Language.TheVariants.{Version, Strftime}
 use Rattle.timefd_parse.specs.Language.{FaultIn, IsAssignedIn}
 
 abbrev pub to_two : Language → Option Conversion

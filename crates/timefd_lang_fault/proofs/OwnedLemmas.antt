@@ -2,8 +2,8 @@
 use Rattle.std.proofs.Common.{◌∙◌, IsTrue, sym, subst}
 use Rattle.timefd_lang_fault.specs.Faults.{Fault, fault_of, quotes}
 use Rattle.timefd_lang_fault.specs.declared.invalid_format_description.InvalidFormatDescription.{InvalidFormatDescription}
-use Rattle.timefd_lang_fault.specs.declared.parse_error.ParseError.{ParseError}
-use Rattle.timefd_lang_fault.specs.declared.parse_error.ParseError.TheVariants as reported
+use Rattle.timefd_lang_fault.specs.declared.borrowed_parse_error.ParseError.{ParseError}
+use Rattle.timefd_lang_fault.specs.declared.borrowed_parse_error.ParseError.TheVariants as reported
 use Rattle.timefd_lang_fault.specs.Reported.{IsFaultOrMemory, MemoryAlone}
 use Rattle.timefd_lang_fault.specs.declared.borrowed_parse_error.BorrowedParseError.{BorrowedParseError}
 use Rattle.timefd_lang_fault.specs.declared.borrowed_parse_error.BorrowedParseError.TheVariants.{Invalid, Memory}

@@ -4,7 +4,7 @@ use Rattle.timefd_lang_fault.specs.Faults.{Kind, Fault, fault, unclosed_bracket,
 use Rattle.timefd_lang_fault.specs.declared.read_error.Fault as code_fault
 use Rattle.timefd_lang_fault.specs.declared.read_error.ReadError.{ReadError}
 use Rattle.timefd_lang_fault.specs.declared.read_error.ReadError.TheVariants as errors
-use Rattle.timefd_lang_fault.specs.declared.parse_error.ParseError.{ParseError}
+use Rattle.timefd_lang_fault.specs.declared.borrowed_parse_error.ParseError.{ParseError}
 use Rattle.timefd_lang_fault.specs.RuleKinds.{rule_kind}
 use Rattle.timefd_lang_fault.specs.Slots.{wanted_by}
 use Rattle.timefd_lang_fault.specs.ReadErrors.{IsFault}

@@ -1,8 +1,8 @@
 -- What an error of the public calls says.
 use Rattle.std.specs.Prelude.{◌≡◌, IsTrue, ⊤}
 use Rattle.timefd_lang_fault.specs.Faults.{Fault, fault_of, quotes}
-use Rattle.timefd_lang_fault.specs.declared.parse_error.ParseError.{ParseError}
-use Rattle.timefd_lang_fault.specs.declared.parse_error.ParseError.TheVariants.{Invalid, Memory}
+use Rattle.timefd_lang_fault.specs.declared.borrowed_parse_error.ParseError.{ParseError}
+use Rattle.timefd_lang_fault.specs.declared.borrowed_parse_error.ParseError.TheVariants.{Invalid, Memory}
 
 -- out of memory
 abbrev pub MemoryAlone : ParseError → Type 0

@@ -5,8 +5,8 @@ use Rattle.timefd_lang_fault.specs.declared.refuser.Refuser.{Refuser}
 use Rattle.timefd_lang_fault.specs.declared.refuser.Refuser.TheVariants as refusers
 use Rattle.timefd_lang_fault.specs.declared.rule.Rule.{Rule}
 use Rattle.timefd_lang_fault.specs.declared.rule.Rule.TheVariants as rules
-use Rattle.timefd_lang_fault.specs.declared.slot.Slot.{Slot}
-use Rattle.timefd_lang_fault.specs.declared.slot.Slot.TheVariants as slots
+use Rattle.timefd_lang_fault.specs.declared.rule.Slot.{Slot}
+use Rattle.timefd_lang_fault.specs.declared.rule.Slot.TheVariants as slots
 
 -- with what a key isn't valid
 abbrev pub context_of : Refuser → Text

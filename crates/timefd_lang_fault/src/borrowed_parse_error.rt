@@ -1,13 +1,22 @@
-//! The error of the public calls, with a fault that borrows what it quotes.
+//! The errors of the public calls: one whose fault owns what it quotes, and one whose fault borrows it.
 
 ghost use Rattle.std.specs.Prelude.{◌≡◌, ◌≤◌};
 ghost use Rattle.timefd_lang_fault.specs.ReadErrors.{MemoryOr};
 ghost use Rattle.timefd_lang_fault.specs.BorrowedFaults.{IsOwned, Borrows, BorrowsSpan};
 
 use crate::borrowed_fault::BorrowedFault;
-use crate::parse_error::ParseError;
+use crate::invalid_format_description::InvalidFormatDescription;
 use crate::read_error::ReadError;
 use std::alloc::{AllocError, Global};
+
+/// Why a text was not read.
+#[derive(Debug, Drop)]
+pub enum ParseError {
+    /// The text isn't a description, because of this fault.
+    Invalid(InvalidFormatDescription),
+    /// Memory ran out. The text has no fault, or one that quotes the text.
+    Memory(AllocError),
+}
 
 /// Why a text was not read. It is like `ParseError`, but borrows what its fault quotes of the text.
 #[derive(Drop)]

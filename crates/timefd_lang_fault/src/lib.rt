@@ -7,7 +7,6 @@
 pub mod borrowed_fault;
 pub mod borrowed_parse_error;
 mod invalid_format_description;
-pub mod parse_error;
 
 // The rules, what they speak of, their codes, and the errors of the readers.
 pub mod code;
@@ -16,7 +15,6 @@ pub mod name;
 pub mod read_error;
 pub mod refuser;
 pub mod rule;
-pub mod slot;
 
 // Sentences in a buffer that may be too short.
 mod digits;
@@ -25,14 +23,12 @@ pub mod laws;
 mod sentence;
 
 pub use borrowed_fault::BorrowedFault;
-pub use borrowed_parse_error::BorrowedParseError;
+pub use borrowed_parse_error::{BorrowedParseError, ParseError};
 pub use code::{Code, all_are_there, names_differ};
 pub use excerpt::Excerpt;
 pub use invalid_format_description::InvalidFormatDescription;
 pub use key::Key;
 pub use name::{ComponentName, Name};
-pub use parse_error::ParseError;
 pub use read_error::{Fault, ReadError};
 pub use refuser::Refuser;
-pub use rule::{FaultKind, Rule};
-pub use slot::Slot;
+pub use rule::{FaultKind, Rule, Slot};

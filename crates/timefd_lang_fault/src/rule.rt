@@ -1,4 +1,4 @@
-//! The rules that a text can break, and what is reported for each.
+//! The rules that a text can break, what should have been there instead, and what is reported for each.
 
 ghost use Rattle.std.specs.Prelude.{◌≡◌};
 ghost use Rattle.timefd_lang_fault.specs.RuleKinds.{kind_of, rule_kind};
@@ -7,7 +7,6 @@ ghost use Rattle.timefd_lang_fault.specs.Slots.{wanted_by};
 use crate::key::Key;
 use crate::name::Name;
 use crate::refuser::Refuser;
-use crate::slot::Slot;
 
 /// The rule that a text breaks, with the word or the key that its sentence quotes.
 #[derive(Clone, Copy)]
@@ -58,6 +57,17 @@ pub enum Rule<'a> {
     DuplicateModifier(&'static str),
     /// A key isn't used with a value that refuses it: the key, and with what it is used.
     RefusedModifier(&'static str, Refuser),
+}
+
+/// What a word at fault should have been.
+#[derive(Clone, Copy)]
+pub enum Slot {
+    /// The name of a bracket.
+    Name,
+    /// A key of the bracket with this name.
+    Key(Name),
+    /// What this key is set to.
+    Value(Key),
 }
 
 impl<'a> Rule<'a> {

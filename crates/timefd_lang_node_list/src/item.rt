@@ -2,8 +2,8 @@
 //! from `timefd_items`.
 
 mod borrowed_format_item;
-mod different_variant;
 pub mod laws;
 
-pub use borrowed_format_item::{BorrowedFormatItem, FormatItem, StaticFormatDescription};
-pub use different_variant::DifferentVariant;
+pub use borrowed_format_item::{
+    BorrowedFormatItem, DifferentVariant, FormatItem, StaticFormatDescription,
+};

@@ -11,7 +11,7 @@ use Rattle.std.proofs.lemmas.Str.{IsCharBoundary-start, IsCharBoundary-end, IsCh
 use Rattle.timefd_lang_component.specs.Tree.{Text}
 use Rattle.timefd_lang_fault.specs.Faults.{Fault}
 use Rattle.timefd_language.specs.Bytes.{is_word_byte, is_key_byte}
-use Rattle.timefd_language.specs.declared.language.Language.{Language}
+use Rattle.timefd_language.specs.declared.description_version.Language.{Language}
 use Rattle.timefd_language.specs.FaultSpans.{LiesBetween}
 use Rattle.timefd_language.specs.Spans.{Extent, one_character, whole_word, whole_key, this_many, extent_of, first_len, measured, end_of}
 

@@ -22,8 +22,8 @@ use Rattle.timefd_language.specs.Values.{Key, format, key_in, setting_in}
 use Rattle.timefd_language.specs.Verdict.{PlacedDescription, ◌or◌, refuse, unless, is_set, bad_value, bad_modifier, bad_modifiers, misplaced, combined, combination, made, after, component_verdict, touching, too_many, nested_refused, nested_wanted, any_modifier, is_formatted, only, optional_verdict, first_verdict, settings, verdict}
 use Rattle.timefd_language.proofs.Lookup.{Each, each-map}
 use Rattle.timefd_language.specs.Slots.{IsSlotIn, WantsKey, WantsValue}
-use Rattle.timefd_lang_fault.specs.declared.slot.Slot.{Slot}
-use Rattle.timefd_lang_fault.specs.declared.slot.Slot.TheVariants as slots
+use Rattle.timefd_lang_fault.specs.declared.rule.Slot.{Slot}
+use Rattle.timefd_lang_fault.specs.declared.rule.Slot.TheVariants as slots
 use Rattle.timefd_language.proofs.SlotLemmas.{head_after, one_colon, some_bytes, stops_name, wanted_slot}
 use Rattle.timefd_language.proofs.Spans.{zero_from_one}
 

@@ -9,8 +9,8 @@ use Rattle.timefd_lang_fault.specs.Faults.{Kind, Fault, fault, unclosed_bracket,
 use Rattle.timefd_lang_fault.specs.declared.key.Key as code_key
 use Rattle.timefd_lang_fault.specs.declared.key.Key.TheVariants as keys
 use Rattle.timefd_lang_fault.specs.declared.name.Name.{Name}
-use Rattle.timefd_lang_fault.specs.declared.slot.Slot.{Slot}
-use Rattle.timefd_lang_fault.specs.declared.slot.Slot.TheVariants as slots
+use Rattle.timefd_lang_fault.specs.declared.rule.Slot.{Slot}
+use Rattle.timefd_lang_fault.specs.declared.rule.Slot.TheVariants as slots
 use Rattle.timefd_language.specs.declared.setting.Setting.{Setting}
 use Rattle.timefd_language.specs.Bytes.{colon, same, named, is_version_three, is_word_byte, is_key_byte, ZeroOrMore, OneOrMore, StopsBefore}
 use Rattle.timefd_language.specs.FaultSpans.{HasNone, SlotsLack, word_at, key_at}

@@ -17,7 +17,7 @@ use Rattle.timefd_lang_fault.specs.declared.borrowed_fault.BorrowedFault.{Borrow
 use Rattle.timefd_lang_fault.specs.declared.rule.Rule.{Rule}
 use Rattle.timefd_language.specs.Bytes.{is_word_byte, is_key_byte, ZeroOrMore, StopsBefore}
 use Rattle.timefd_language.specs.Slots.{IsWanted, WantsIn}
-use Rattle.timefd_language.specs.declared.language.Language.{Language}
+use Rattle.timefd_language.specs.declared.description_version.Language.{Language}
 use Rattle.timefd_language.specs.Spans.{Extent, one_character, whole_word, whole_key, this_many, modifier_extent, version_extent, extent_of, first_len, measured, IsSpanned, SpansIn, SpansVersion}
 
 -- A text within another.

@@ -12,12 +12,12 @@ use Rattle.timefd_lang_fault.specs.declared.borrowed_fault.BorrowedFault.{Borrow
 use Rattle.timefd_lang_fault.specs.declared.rule.Rule.{Rule}
 use Rattle.timefd_lang_fault.specs.declared.borrowed_parse_error.BorrowedParseError.{BorrowedParseError}
 use Rattle.timefd_lang_fault.specs.declared.borrowed_parse_error.BorrowedParseError.TheVariants.{Invalid, Memory}
-use Rattle.timefd_lang_fault.specs.declared.parse_error.ParseError.{ParseError}
-use Rattle.timefd_lang_fault.specs.declared.parse_error.ParseError.TheVariants as reported
+use Rattle.timefd_lang_fault.specs.declared.borrowed_parse_error.ParseError.{ParseError}
+use Rattle.timefd_lang_fault.specs.declared.borrowed_parse_error.ParseError.TheVariants as reported
 use Rattle.timefd_language.specs.Bytes.{is_word_byte, is_key_byte}
 use Rattle.timefd_language.specs.Slots.{IsWanted, WantsIn}
-use Rattle.timefd_language.specs.declared.language.Language.{Language}
-use Rattle.timefd_language.specs.declared.language.Language.TheVariants.{Version, Strftime}
+use Rattle.timefd_language.specs.declared.description_version.Language.{Language}
+use Rattle.timefd_language.specs.declared.description_version.Language.TheVariants.{Version, Strftime}
 
 -- how far a fault reaches from its index on
 pub data Extent : Type 0 where

@@ -1,6 +1,15 @@
-//! The versions of the language of format descriptions.
+//! The languages of texts, and the versions of that of format descriptions.
 
 ghost use Rattle.std.specs.Prelude.{◌≡◌};
+
+/// The language of a text. `time` has a call for each; this type is this port's own.
+#[derive(Debug, Clone, Copy, PartialEq, Eq)]
+pub enum Language {
+    /// The format descriptions of a version.
+    Version(DescriptionVersion),
+    /// The conversion specifications of C's `strftime`.
+    Strftime,
+}
 
 /// A version of the language, like the parameter of `time`'s `parse_borrowed`.
 #[derive(Debug, Clone, Copy, PartialEq, Eq)]

@@ -8,7 +8,6 @@ pub mod combination;
 pub mod component;
 pub mod description_version;
 pub mod key;
-pub mod language;
 pub mod laws;
 pub mod name;
 pub mod same;
@@ -20,5 +19,4 @@ pub mod value;
 // The parser of strftime.
 pub mod strftime;
 
-pub use description_version::DescriptionVersion;
-pub use language::Language;
+pub use description_version::{DescriptionVersion, Language};

@@ -1,7 +1,7 @@
 -- One answer in each language.
 use Rattle.timefd_language.proofs.LawLemmas.{one_answer_law}
 use Rattle.timefd_language.proofs.StrftimeReader.{strftime_one_answer_law}
-use Rattle.timefd_language.specs.declared.language.Language.TheVariants.{Version, Strftime}
+use Rattle.timefd_language.specs.declared.description_version.Language.TheVariants.{Version, Strftime}
 use Rattle.timefd_laws.specs.Answers.{OneAnswerInEach}
 
 pub one_answer_in_each : OneAnswerInEach

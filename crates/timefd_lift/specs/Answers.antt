@@ -4,7 +4,7 @@ use Rattle.std.specs.declared.string.String.{String}
 use Rattle.std.specs.declared.alloc.Global.{Global}
 use Rattle.timefd_lang_component.specs.Tree.{Text, Tree, joined}
 use Rattle.timefd_language.specs.declared.description_version.DescriptionVersion.TheVariants.{One, Two}
-use Rattle.timefd_lang_fault.specs.declared.parse_error.ParseError.{ParseError}
+use Rattle.timefd_lang_fault.specs.declared.borrowed_parse_error.ParseError.{ParseError}
 use Rattle.timefd_lang_fault.specs.Reported.{MemoryAlone}
 use Rattle.timefd_language.specs.Grammar.{Pieces, ArePieces, spelling, Spells, nesting_limit}
 use Rattle.timefd_language.specs.Rewritten.{rewritten}

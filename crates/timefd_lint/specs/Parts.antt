@@ -6,7 +6,7 @@ use Rattle.std.specs.declared.io.ErrorKind.{ErrorKind}
 use Rattle.timefd_lang_component.specs.Tree.{Text}
 use Rattle.timefd_lint_diagnosis.specs.Words.{texts}
 use Rattle.timefd_lint_files.specs.declared.entry.FolderEntry.{FolderEntry}
-use Rattle.timefd_lint_files.specs.declared.excluded.Excluded.{Excluded}
+use Rattle.timefd_lint_files.specs.declared.start.Excluded.{Excluded}
 use Rattle.timefd_lint_files.specs.declared.walk_error.WalkError.{WalkError}
 use Rattle.timefd_lint_files.specs.Errors.{IsBelowAny, IsWalkError, OneOf}
 use Rattle.timefd_lint_files.specs.Walks.{AreExpanded, IsKept, IsWalkBut}

@@ -7,14 +7,14 @@ use Rattle.timefd_lang_convert.specs.Conversions.{conversion_between}
 use Rattle.timefd_lang_dialect.specs.declared.dialect.Dialect.{Dialect}
 use Rattle.timefd_language.specs.declared.description_version.DescriptionVersion.{DescriptionVersion}
 use Rattle.timefd_language.specs.declared.description_version.DescriptionVersion.TheVariants.{One, Two, Three}
-use Rattle.timefd_language.specs.declared.language.Language.{Language}
-use Rattle.timefd_language.specs.declared.language.Language.TheVariants.{Version}
+use Rattle.timefd_language.specs.declared.description_version.Language.{Language}
+use Rattle.timefd_language.specs.declared.description_version.Language.TheVariants.{Version}
 use Rattle.timefd_lint_rewrite.specs.declared.counts.Counts.{Counts}
 use Rattle.timefd_lint_rewrite.specs.declared.layout.Layout.TheVariants as layouts
 use Rattle.timefd_lint_rewrite.specs.declared.line_change.LineChange.{LineChange}
 use Rattle.timefd_lint_rewrite.specs.declared.line_change.LineChange.TheVariants as line_changes
-use Rattle.timefd_lint_rewrite.specs.declared.fixes.Fixes.{Fixes}
-use Rattle.timefd_lint_rewrite.specs.declared.fixes.Fixes.TheVariants.{All, Sure}
+use Rattle.timefd_lint_rewrite.specs.declared.cure.Fixes.{Fixes}
+use Rattle.timefd_lint_rewrite.specs.declared.cure.Fixes.TheVariants.{All, Sure}
 use Rattle.timefd_lint_sources.specs.declared.rewriting.change.Change.{Change}
 use Rattle.timefd_lint_sources.specs.declared.rewriting.change.Change.TheVariants as changes
 use Rattle.timefd_lint_options.specs.declared.settings.RunSettings.{RunSettings}

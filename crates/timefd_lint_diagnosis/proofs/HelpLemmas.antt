@@ -11,12 +11,12 @@ use Rattle.timefd_lang_fault.specs.declared.rule.Rule.{Rule}
 use Rattle.timefd_lang_fault.specs.declared.rule.Rule.TheVariants as rules
 use Rattle.timefd_lang_fault.specs.declared.key.Key.{Key}
 use Rattle.timefd_lang_fault.specs.declared.name.Name.{Name}
-use Rattle.timefd_lang_fault.specs.declared.slot.Slot.{Slot}
-use Rattle.timefd_lang_fault.specs.declared.slot.Slot.TheVariants as slots
+use Rattle.timefd_lang_fault.specs.declared.rule.Slot.{Slot}
+use Rattle.timefd_lang_fault.specs.declared.rule.Slot.TheVariants as slots
 use Rattle.timefd_language.specs.Bytes.{is_version_three}
 use Rattle.timefd_language.specs.Slots.{IsWanted}
 use Rattle.timefd_language.specs.declared.description_version.DescriptionVersion.{DescriptionVersion}
-use Rattle.timefd_language.specs.declared.language.Language.TheVariants.{Version}
+use Rattle.timefd_language.specs.declared.description_version.Language.TheVariants.{Version}
 use Rattle.timefd_lint_diagnosis.specs.declared.help.Help.{Help}
 use Rattle.timefd_lint_diagnosis.specs.declared.help.Help.TheVariants.{Words, LeaveOut, Advice}
 use Rattle.timefd_lint_diagnosis.specs.Helps.{HasNoModifierSlot, IsModifierSlot, IsVersionHelp, IsWordsHelp}

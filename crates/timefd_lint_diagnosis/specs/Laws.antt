@@ -6,7 +6,7 @@ use Rattle.timefd_language.specs.declared.description_version.DescriptionVersion
 use Rattle.timefd_language.specs.Bytes.{is_version_three}
 use Rattle.timefd_language.specs.Grammar.{Nested, bracket_verdict}
 use Rattle.timefd_language.specs.Head.{Head, IsHead, head_text}
-use Rattle.timefd_lang_fault.specs.declared.slot.Slot.{Slot}
+use Rattle.timefd_lang_fault.specs.declared.rule.Slot.{Slot}
 use Rattle.timefd_lint_diagnosis.specs.Helps.{IsModifierSlot}
 
 -- If a closed bracket is refused for a word of a modifier, it is known what the word should have

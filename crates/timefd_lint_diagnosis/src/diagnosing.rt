@@ -10,9 +10,8 @@ ghost use Rattle.timefd_parse.specs.Language.{SpellsIn, FaultIn};
 ghost use Rattle.timefd_language.specs.Spans.{IsSpanned};
 ghost use Rattle.timefd_lint_diagnosis.specs.Diagnoses.{IsDiagnosis, IsOfFault, IsWithin};
 
-use crate::diagnostic::Diagnostic;
+use crate::diagnostic::{Diagnostic, Span};
 use crate::help::help_against;
-use crate::span::Span;
 use std::alloc::{AllocError, Global};
 use timefd_lang_fault::Code;
 use timefd_parse::{

@@ -1,13 +1,19 @@
-//! Why a text is refused, and the stable name of the reason.
+//! Why a text is refused, where, and the stable name of the reason.
 
 ghost use Rattle.std.specs.Prelude.{◌≡◌};
 ghost use Rattle.timefd_lang_fault.specs.Faults.{fault_of};
 ghost use Rattle.timefd_lang_fault.specs.Codes as spec;
 
 use crate::help::Help;
-use crate::span::Span;
 use timefd_lang_fault::Code;
 use timefd_parse::InvalidFormatDescription;
+
+/// Bytes of a text, by their indices: from `start` on, up to but without `end`.
+#[derive(Debug, Clone, Copy, PartialEq, Eq)]
+pub struct Span {
+    pub start: usize,
+    pub end: usize,
+}
 
 /// Why a text is refused, and where.
 #[derive(Drop)]

@@ -10,12 +10,10 @@ mod further;
 mod help;
 pub mod laws;
 pub mod nearest;
-mod span;
 pub mod words;
 
 pub use diagnosing::diagnose;
-pub use diagnostic::{Diagnostic, code_of};
+pub use diagnostic::{Diagnostic, Span, code_of};
 pub use further::{MOST_FURTHER, further_faults};
 pub use help::{Help, help_against};
-pub use span::Span;
 pub use timefd_lang_fault::{Code, Slot, all_are_there, names_differ};

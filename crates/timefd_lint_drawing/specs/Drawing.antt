@@ -5,7 +5,7 @@ use Rattle.timefd_lang_fault.specs.Faults.{fault_of}
 use Rattle.timefd_lang_fault.specs.Sentences.{error_sentence}
 use Rattle.timefd_lang_fault.specs.Codes.{code_of, name_of}
 use Rattle.timefd_lint_diagnosis.specs.declared.diagnostic.Diagnostic.{Diagnostic}
-use Rattle.timefd_lint_diagnosis.specs.declared.span.Span.{Span}
+use Rattle.timefd_lint_diagnosis.specs.declared.diagnostic.Span.{Span}
 use Rattle.timefd_lint_diagnosis.specs.Helps.{nearest_in}
 use Rattle.timefd_lint_drawing.specs.declared.draw.Format.{Format}
 use Rattle.timefd_lint_drawing.specs.declared.draw.Format.TheVariants.{Human, Json, Short, Github, Sarif}

@@ -1,7 +1,7 @@
 -- What is found in a text or said of a file, as it is written in each form.
 use Rattle.std.specs.Prelude.{ℕ, Bool, true, false, [], ◌++◌, Option, None, Some, codes, decimal, option_map}
 use Rattle.timefd_lang_component.specs.Tree.{Text}
-use Rattle.timefd_lint_diagnosis.specs.declared.span.Span.{Span}
+use Rattle.timefd_lint_diagnosis.specs.declared.diagnostic.Span.{Span}
 use Rattle.timefd_lint_drawing.specs.declared.draw.Format.{Format}
 use Rattle.timefd_lint_drawing.specs.declared.draw.Format.TheVariants.{Human, Json, Short, Github, Sarif}
 use Rattle.timefd_lint_drawing.specs.declared.draw.Style.{Style}

@@ -3,7 +3,7 @@ use Rattle.std.specs.Prelude.{ℕ, ◌+◌, ◌-◌, ◌/◌, ◌%◌, Bool, tru
 use Rattle.std.specs.Char.Escape.{encode_utf16}
 use Rattle.std.specs.Str.{IsUtf8, NonePass}
 use Rattle.timefd_lang_component.specs.Tree.{Text}
-use Rattle.timefd_lint_diagnosis.specs.declared.span.Span.{Span}
+use Rattle.timefd_lint_diagnosis.specs.declared.diagnostic.Span.{Span}
 use Rattle.timefd_lint_drawing.specs.Shown.{is_hidden, is_printable}
 
 abbrev pub hex_digit : ℕ → ℕ

@@ -3,7 +3,7 @@ use Rattle.std.specs.Prelude.{ℕ, ◌+◌, ◌-◌, ◌^◌, ◌&&◌, ◌==◌
 use Rattle.std.specs.List.{before_first, count_by, list_any}
 use Rattle.unicode_width.specs.Width.{str_width}
 use Rattle.timefd_lang_component.specs.Tree.{Text}
-use Rattle.timefd_lint_diagnosis.specs.declared.span.Span.{Span}
+use Rattle.timefd_lint_diagnosis.specs.declared.diagnostic.Span.{Span}
 use Rattle.timefd_lint_drawing.specs.declared.draw.Format.{Format}
 use Rattle.timefd_lint_drawing.specs.declared.draw.Format.TheVariants.{Human, Json, Short, Github, Sarif}
 use Rattle.timefd_lint_drawing.specs.declared.position.Position.{Position}

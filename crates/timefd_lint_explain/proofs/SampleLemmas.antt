@@ -21,7 +21,7 @@ use Rattle.timefd_date_format.specs.declared.field.WrittenField.{WrittenField}
 use Rattle.timefd_date_format.specs.declared.field.Lack.{Lack}
 use Rattle.timefd_date_format.specs.declared.text.TextError.{TextError}
 use Rattle.timefd_date_format.specs.declared.text.TextError.TheVariants as reported
-use Rattle.timefd_date_format.specs.declared.unshown.Unshown.{Unshown}
+use Rattle.timefd_date_format.specs.declared.field.Unshown.{Unshown}
 use Rattle.timefd_date_format.proofs.RenderingLemmas.{writes_listed}
 use Rattle.timefd_lang_node_list.specs.Item.Meaning.{item_tree, item_trees}
 use Rattle.timefd_lang_node_list.specs.declared.item.borrowed_format_item.BorrowedFormatItem.TheVariants as items

@@ -23,7 +23,7 @@ use Rattle.timefd_language.specs.Strings.{are_of_strings, is_of_strings}
 use Rattle.timefd_lang_node_list.specs.Nodes.{kept_bytes}
 use Rattle.timefd_parse.specs.FirstPiece.{BeginsList}
 use Rattle.timefd_parse.specs.Language.{SpellsIn}
-use Rattle.timefd_language.specs.declared.language.Language.{Language}
+use Rattle.timefd_language.specs.declared.description_version.Language.{Language}
 use Rattle.timefd_lint_explain.specs.declared.piece.Shown.{Shown}
 use Rattle.timefd_lint_explain.specs.Shown.{AreShown, AreSpelled, IsShown, Shows, ShowsOne, texts}
 

@@ -10,8 +10,8 @@ use Rattle.timefd_language.specs.declared.description_version.DescriptionVersion
 use Rattle.timefd_language.specs.Grammar.{Spells, nesting_limit}
 use Rattle.timefd_language.specs.Strftime.{SpellsStrftime}
 use Rattle.timefd_parse.specs.Language.{SpellsIn}
-use Rattle.timefd_language.specs.declared.language.Language.{Language}
-use Rattle.timefd_language.specs.declared.language.Language.TheVariants.{Version}
+use Rattle.timefd_language.specs.declared.description_version.Language.{Language}
+use Rattle.timefd_language.specs.declared.description_version.Language.TheVariants.{Version}
 use Rattle.timefd_lint_explain.specs.declared.node.ShownNode.{ShownNode}
 use Rattle.timefd_lint_explain.specs.declared.piece.Shown.{Shown}
 use Rattle.timefd_lint_explain.specs.declared.piece.What.TheVariants as what

@@ -6,7 +6,7 @@ use Rattle.timefd_lang_node_list.specs.declared.item.borrowed_format_item.Borrow
 use Rattle.timefd_lang_node_list.specs.Item.Meaning.{item_tree, item_trees}
 use Rattle.timefd_language.specs.Grammar.{nesting_limit}
 use Rattle.timefd_parse.specs.Language.{SpellsIn}
-use Rattle.timefd_language.specs.declared.language.Language.{Language}
+use Rattle.timefd_language.specs.declared.description_version.Language.{Language}
 use Rattle.timefd_lint_explain.specs.declared.node.ShownNode.{ShownNode}
 use Rattle.timefd_lint_explain.specs.declared.piece.Shown.{Shown}
 use Rattle.timefd_lint_explain.specs.Parts.{all_parts, members, parts, piece, IsPiece, Adds}

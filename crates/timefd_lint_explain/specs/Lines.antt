@@ -9,7 +9,7 @@ use Rattle.timefd_lint_drawing.specs.Shown.{safe}
 use Rattle.timefd_language.specs.Grammar.{nesting_limit}
 use Rattle.timefd_lang_node_list.specs.Nodes.{kept_bytes}
 use Rattle.timefd_parse.specs.Language.{SpellsIn}
-use Rattle.timefd_language.specs.declared.language.Language.{Language}
+use Rattle.timefd_language.specs.declared.description_version.Language.{Language}
 use Rattle.timefd_lint_explain.specs.Examples.{Examples}
 use Rattle.timefd_lint_explain.specs.Parts.{AreParts, all_parts}
 use Rattle.timefd_lint_explain.specs.Stands.{NodesStand}

@@ -5,7 +5,7 @@ use Rattle.timefd_lang_component.specs.Tree.{Text, Tree, Trees, component, liter
 use Rattle.timefd_language.specs.Grammar.{nesting_limit}
 use Rattle.timefd_lang_node_list.specs.Nodes.{kept_bytes}
 use Rattle.timefd_parse.specs.Language.{SpellsIn}
-use Rattle.timefd_language.specs.declared.language.Language.{Language}
+use Rattle.timefd_language.specs.declared.description_version.Language.{Language}
 use Rattle.timefd_lint_explain.specs.Samples.{IsExample}
 use Rattle.timefd_lint_explain.specs.declared.piece.Shown.{Shown}
 use Rattle.timefd_lint_explain.specs.declared.piece.What.{What}

@@ -6,8 +6,8 @@ use Rattle.timefd_language.specs.Bytes.{left, right, is_white, ZeroOrMore}
 use Rattle.timefd_language.specs.Grammar.{nesting_limit}
 use Rattle.timefd_language.specs.Head.{Head, IsHead, head_text}
 use Rattle.timefd_parse.specs.Language.{SpellsIn}
-use Rattle.timefd_language.specs.declared.language.Language.{Language}
-use Rattle.timefd_language.specs.declared.language.Language.TheVariants.{Version}
+use Rattle.timefd_language.specs.declared.description_version.Language.{Language}
+use Rattle.timefd_language.specs.declared.description_version.Language.TheVariants.{Version}
 use Rattle.timefd_lint_explain.specs.declared.node.ShownNode.{ShownNode}
 
 -- A byte range of a text, from `start` to before `end`.

@@ -10,9 +10,7 @@ mod node;
 mod piece;
 mod pieces;
 mod tree;
-mod words;
 
 pub use example::sample;
 pub use explain::{Explanation, explained, explanation_of};
-pub use node::{NodeKind, ShownNode};
-pub use words::words_of;
+pub use node::{NodeKind, ShownNode, words_of};

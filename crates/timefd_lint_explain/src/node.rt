@@ -1,8 +1,11 @@
-//! A node of a description, as it is shown.
+//! A node of a description, as it is shown, and the words of its component, as they are written in brackets.
 
 ghost use Rattle.std.specs.Prelude.{ℕ, ◌≡◌, ◌+◌, IfOk, length, string_bytes};
+ghost use Rattle.timefd_lang_component.specs.Bracket.Words.{words};
+ghost use Rattle.timefd_lang_component.specs.Modern.{modern};
 ghost use Rattle.timefd_lang_component.specs.Reserved.{reserve};
 ghost use Rattle.timefd_lang_component.specs.Tree.{Tree};
+ghost use Rattle.timefd_lang_component.specs.declared.bracket.defaults.Defaults.{Defaults as Omission};
 ghost use Rattle.timefd_lang_node_list.specs.Nodes.{kept_bytes};
 ghost use Rattle.timefd_lint_explain.specs.Examples as spec;
 ghost use Rattle.timefd_lint_explain.specs.Examples.{AreWordsOf, HasExample, Names, kind_in};
@@ -11,11 +14,14 @@ ghost use Rattle.timefd_lint_explain.specs.Shown.{IsExampleOf, IsWhat};
 
 use crate::example::sample;
 use crate::piece::What;
-use crate::words::words_of;
 use std::alloc::{AllocError, Global};
 use timefd_lang_component::Component;
+use timefd_lang_component::bracket::{Defaults, push_words};
 use timefd_lint_drawing::shown::safe;
 use timefd_parse::{Language, bracket_name, first_modifier};
+
+// Room for the words of most components, and for what follows them.
+const ROOM: usize = 96;
 
 /// What kind of node it is.
 #[derive(Clone, Copy)]
@@ -143,6 +149,16 @@ fn example_of(alloc: Global, what: &What) -> Result<String, AllocError>
         What::Component(component) => sample(alloc, *component),
         What::Optional(_) | What::First | What::Several => Ok(String::new(alloc)),
     }
+}
+
+/// The name of a component with all its modifiers, whether set or by default. A deprecated component has the
+/// words of the component that replaces it.
+pub fn words_of(alloc: Global, component: Component) -> Result<String, AllocError>
+    ensures { IfOk result (λ text. string_bytes text ≡ words Omission.Written (modern component)) }
+{
+    let mut text = String::with_capacity(alloc, ROOM)?;
+    push_words(alloc, &mut text, component, Defaults::Written)?;
+    Ok(text)
 }
 
 // The words of a component, and after them which modifiers the text sets. That is left out if the component

@@ -7,7 +7,7 @@ ghost use Rattle.timefd_language.specs.Grammar.{nesting_limit};
 ghost use Rattle.timefd_language.specs.Strings.{are_of_strings, is_of_strings};
 ghost use Rattle.timefd_lang_node_list.specs.Views.{shape_tree, view_tree};
 ghost use Rattle.timefd_parse.specs.Language.{SpellsIn};
-ghost use Rattle.timefd_language.specs.declared.language.Language as spec_language;
+ghost use Rattle.timefd_language.specs.declared.description_version.Language as spec_language;
 ghost use Rattle.timefd_lint_explain.specs.Shown.{IsWhat, ShowsOne, SpellsOne};
 
 use std::alloc::{AllocError, Global};

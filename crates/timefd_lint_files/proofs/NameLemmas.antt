@@ -8,7 +8,7 @@ use Rattle.timefd_lint_files.specs.IgnoreFiles.{IsReadFrom}
 use Rattle.timefd_lint_files.specs.declared.entry.FolderEntry.{FolderEntry}
 use Rattle.timefd_lint_files.specs.Walks.{AreExcluded, AreExpanded, IsExpanded, IsWalk, IsAlone, IsWalkBut, as_folder, is_input}
 use Rattle.timefd_lint_files.specs.Starts.{Begun, seen, start_below}
-use Rattle.timefd_lint_files.specs.declared.excluded.Excluded.{Excluded}
+use Rattle.timefd_lint_files.specs.declared.start.Excluded.{Excluded}
 use Rattle.timefd_lint_files.specs.declared.start.NameParts.{NameParts}
 use Rattle.timefd_lint_files.proofs.WalkLemmas.{GoesOn}
 use Rattle.timefd_lint_files.proofs.WalkLemmas as walks

@@ -2,7 +2,7 @@
 use Rattle.std.proofs.Common.{◌≡◌, ℕ, Bool, true, false, List, [], ◌∷◌, ◌++◌, refl, sym, ap, ◌∙◌, append-nil}
 use Rattle.timefd_lint_files.specs.Matching.{Text}
 use Rattle.timefd_lint_files.specs.declared.ignore_file.IgnoreFile.{IgnoreFile}
-use Rattle.timefd_lint_files.specs.declared.excluded.Excluded.{Excluded}
+use Rattle.timefd_lint_files.specs.declared.start.Excluded.{Excluded}
 use Rattle.timefd_lint_files.specs.Starts.{path_below}
 use Rattle.timefd_lint_files.specs.Rules.{is_ignored}
 use Rattle.timefd_lint_files.specs.Walks.{IsAlone, IsKept, front_of, is_out, is_out_from, is_out_here, unless_out}

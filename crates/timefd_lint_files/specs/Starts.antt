@@ -1,7 +1,7 @@
 -- Where a name leads, seen from the folder that patterns are relative to.
 use Rattle.std.specs.Prelude.{ℕ, ◌-◌, Bool, false, not, ◌&&◌, ◌==◌, nat_eq, if◌then◌else◌, [], ◌∷◌, ◌++◌, length, take, drop, Option, Some, None}
 use Rattle.std.specs.List.{starts_with}
-use Rattle.timefd_lint_files.specs.declared.excluded.Excluded.{Excluded}
+use Rattle.timefd_lint_files.specs.declared.start.Excluded.{Excluded}
 use Rattle.timefd_lint_files.specs.declared.start.NameParts.{NameParts}
 use Rattle.timefd_lint_files.specs.FileNames.{file_name}
 use Rattle.timefd_lint_files.specs.Matching.{Text, slash}

@@ -10,7 +10,7 @@ use Rattle.timefd_lint_files.specs.declared.entry.EntryKind.{EntryKind}
 use Rattle.timefd_lint_files.specs.declared.entry.EntryKind.TheVariants as kinds
 use Rattle.timefd_lint_files.specs.declared.entry.EntryRole.{EntryRole}
 use Rattle.timefd_lint_files.specs.declared.entry.EntryRole.TheVariants as roles
-use Rattle.timefd_lint_files.specs.declared.excluded.Excluded.{Excluded}
+use Rattle.timefd_lint_files.specs.declared.start.Excluded.{Excluded}
 use Rattle.timefd_lint_files.specs.declared.ignore_file.IgnoreFile.{IgnoreFile}
 use Rattle.timefd_lint_files.specs.Entries.{has_entry, role}
 use Rattle.timefd_lint_files.specs.IgnoreFiles.{IsReadAs, IsReadFrom}

@@ -1,12 +1,10 @@
 //! Lists the sources below folders, except those that are excluded or that `.gitignore` files ignore.
 #![tactic(auto)]
 
-mod applying;
 mod around;
 mod class;
 mod ends;
 mod entry;
-mod excluded;
 mod front;
 mod groups;
 mod ignore_file;
@@ -29,7 +27,6 @@ mod walk_error;
 
 pub use class::{ByteClass, ByteRange};
 pub use entry::{EntryKind, EntryRole, FolderEntry};
-pub use excluded::Excluded;
 pub use front::{folders_above, folders_around, front_below};
 pub use groups::{NameGroup, found_for, grouped};
 pub use ignore_file::IgnoreFile;
@@ -38,6 +35,7 @@ pub use names::{SoughtFiles, expanded};
 pub use pattern::Pattern;
 pub use reading::pattern_of;
 pub use rules::{PatternVerdict, is_ignored, is_passed_over};
+pub use start::Excluded;
 pub use system::{FileError, FileSystem};
 pub use token::PatternToken;
 pub use upwards::{Nearest, first_upwards};

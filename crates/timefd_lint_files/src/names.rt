@@ -8,10 +8,9 @@ ghost use Rattle.timefd_lint_files.specs.Walks as spec;
 ghost use Rattle.timefd_lint_files.specs.declared.walk_error.WalkError.TheVariants as errors;
 ghost use Rattle.timefd_lint_files.specs.Walks.{AreExcluded, AreExpanded, IsAlone, IsExpanded, IsKept, IsWalkBut, texts};
 
-use crate::excluded::Excluded;
 use crate::ignore_file::IgnoreFile;
 use crate::rules::is_ignored;
-use crate::start::{path_below, start_below};
+use crate::start::{Excluded, path_below, start_below};
 use crate::system::FileSystem;
 use crate::walk::{Choice, DEPTH_LIMIT, FolderWalk, walk_folder};
 use crate::walk_error::WalkError;

@@ -1,12 +1,23 @@
-//! Where a name leads, seen from the folder that patterns are relative to.
+//! What is passed over, whatever `.gitignore` files say, and where a name leads, seen from the folder that
+//! patterns are relative to.
 
 ghost use Rattle.std.specs.Prelude.{◌≡◌, ◌≤◌, ◌+◌, IfOk, IfSome, IsUtf8, length};
 ghost use Rattle.timefd_lint_files.specs.Starts as spec;
 ghost use Rattle.timefd_lint_files.specs.Starts.{seen, seen_any};
 
-use crate::excluded::Excluded;
 use crate::last_name::file_name;
 use std::alloc::{AllocError, Global};
+
+/// Patterns, and the folder that they are relative to.
+#[derive(Clone, Copy)]
+pub struct Excluded<'a> {
+    /// The patterns, one a line, as in a `.gitignore` file of that folder.
+    pub patterns: &'a str,
+    /// The path of that folder, each name with `/` at its end. It is cut off a name that begins with it.
+    pub folder: &'a [u8],
+    /// The path of the working directory from that folder, for any other name: empty, or names that each end in `/`.
+    pub front: &'a [u8],
+}
 
 /// A name in two parts.
 #[derive(Clone, Copy)]

@@ -3,8 +3,8 @@ use Rattle.std.specs.Prelude.{ℕ, Bool, true, false, List, codes, map, string_b
 use Rattle.std.specs.Borrow.{Bor}
 use Rattle.serde_json.specs.Data.{Data, boolean, number, unsigned, string, array, object, item, no_items, member, no_members}
 use Rattle.serde_json.specs.View.{items_of}
-use Rattle.timefd_lang_fault.specs.declared.slot.Slot.{Slot}
-use Rattle.timefd_lang_fault.specs.declared.slot.Slot.TheVariants as slots
+use Rattle.timefd_lang_fault.specs.declared.rule.Slot.{Slot}
+use Rattle.timefd_lang_fault.specs.declared.rule.Slot.TheVariants as slots
 use Rattle.timefd_lint_lsp.specs.declared.editor.action.Action.{Action}
 use Rattle.timefd_lint_lsp.specs.declared.editor.action.ActionKind.{ActionKind}
 use Rattle.timefd_lint_lsp.specs.declared.editor.action.ActionKind.TheVariants.{QuickFix, Guess, Rewrite, FixAll}

@@ -4,8 +4,8 @@ use Rattle.timefd_lint_drawing.specs.declared.draw.Format.{Format}
 use Rattle.timefd_lint_drawing.specs.declared.draw.Format.TheVariants.{Human, Json, Short, Github, Sarif}
 use Rattle.timefd_language.specs.declared.description_version.DescriptionVersion.{DescriptionVersion}
 use Rattle.timefd_language.specs.declared.description_version.DescriptionVersion.TheVariants.{One, Two, Three}
-use Rattle.timefd_language.specs.declared.language.Language.{Language}
-use Rattle.timefd_language.specs.declared.language.Language.TheVariants as languages
+use Rattle.timefd_language.specs.declared.description_version.Language.{Language}
+use Rattle.timefd_language.specs.declared.description_version.Language.TheVariants as languages
 use Rattle.timefd_lint_options.specs.declared.error.Conflict.{Conflict}
 use Rattle.timefd_lint_options.specs.declared.error.Conflict.TheVariants.{ServesFiles, ServesAlone, ExplainUndrawn, LogRewritten, WriteWithoutVersion, PartialWithoutWrite, UnsafeWithoutFix, FixesRewritten, FixesWhole, FixesNoFile, FixesInput, NormalOfAnother, NoConversion, ExplainsOther, FixesOther, RewritesWarned, RewritesWhole, RewritesNoFile, RewritesInput}
 use Rattle.timefd_lint_options.specs.declared.names.NamedFiles.{NamedFiles}

@@ -6,8 +6,8 @@ use Rattle.timefd_lint_drawing.specs.declared.draw.Format.TheVariants as formats
 use Rattle.timefd_language.specs.declared.description_version.DescriptionVersion.{DescriptionVersion}
 use Rattle.timefd_language.specs.declared.description_version.DescriptionVersion.TheVariants.{One, Two, Three}
 use Rattle.timefd_language.specs.Grammar.{is_empty}
-use Rattle.timefd_language.specs.declared.language.Language as languages_of
-use Rattle.timefd_language.specs.declared.language.Language.TheVariants as languages
+use Rattle.timefd_language.specs.declared.description_version.Language as languages_of
+use Rattle.timefd_language.specs.declared.description_version.Language.TheVariants as languages
 use Rattle.timefd_lint_options.specs.declared.error.OptionError.{OptionError}
 use Rattle.timefd_lint_options.specs.declared.error.OptionError.TheVariants.{NotAKey, NotAValue}
 use Rattle.timefd_lint_options.specs.declared.settings.Color.TheVariants as colors

@@ -5,8 +5,8 @@ use Rattle.timefd_lint_drawing.specs.declared.draw.Format.{Format}
 use Rattle.timefd_lint_drawing.specs.declared.draw.Format.TheVariants.{Human, Json, Short, Github, Sarif}
 use Rattle.timefd_language.specs.declared.description_version.DescriptionVersion.{DescriptionVersion}
 use Rattle.timefd_language.specs.declared.description_version.DescriptionVersion.TheVariants.{One, Two, Three}
-use Rattle.timefd_language.specs.declared.language.Language.{Language}
-use Rattle.timefd_language.specs.declared.language.Language.TheVariants.{Version, Strftime}
+use Rattle.timefd_language.specs.declared.description_version.Language.{Language}
+use Rattle.timefd_language.specs.declared.description_version.Language.TheVariants.{Version, Strftime}
 use Rattle.timefd_lang_dialect.specs.declared.dialect.Dialect.{Dialect}
 use Rattle.timefd_lang_dialect.specs.Dialects.{named}
 use Rattle.timefd_lint_options.specs.declared.settings.Color.{Color}

@@ -7,12 +7,12 @@ use Rattle.timefd_lang_fault.specs.Faults.{Fault}
 use Rattle.timefd_language.specs.Grammar.{nesting_limit}
 use Rattle.timefd_language.proofs.LawLemmas.{one_answer_law}
 use Rattle.timefd_language.proofs.StrftimeReader.{strftime_one_answer_law}
-use Rattle.timefd_lang_fault.specs.declared.parse_error.ParseError.{ParseError}
-use Rattle.timefd_lang_fault.specs.declared.parse_error.ParseError.TheVariants.{Invalid, Memory}
-use Rattle.timefd_language.specs.declared.language.Language.{Language}
-use Rattle.timefd_language.specs.declared.language.Language.TheVariants.{Version, Strftime}
+use Rattle.timefd_lang_fault.specs.declared.borrowed_parse_error.ParseError.{ParseError}
+use Rattle.timefd_lang_fault.specs.declared.borrowed_parse_error.ParseError.TheVariants.{Invalid, Memory}
+use Rattle.timefd_language.specs.declared.description_version.Language.{Language}
+use Rattle.timefd_language.specs.declared.description_version.Language.TheVariants.{Version, Strftime}
 use Rattle.timefd_parse.specs.Language.{FaultIn, IsAssignedIn, SpellsIn}
-use Rattle.timefd_lint_rewrite.specs.declared.fixes.Fixes.{Fixes}
+use Rattle.timefd_lint_rewrite.specs.declared.cure.Fixes.{Fixes}
 use Rattle.timefd_lint_rewrite.specs.declared.fixing.TheConstants.{FIX_LIMIT}
 use Rattle.timefd_lint_rewrite.specs.Chains.{IsFixed, IsLeftOf, LeadsTo}
 

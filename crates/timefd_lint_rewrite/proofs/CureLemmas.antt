@@ -5,9 +5,9 @@ use Rattle.std.specs.Str.{IsCharBoundary, bytes_eq}
 use Rattle.std.proofs.lemmas.Slice.Eq.{bytes_eq-Decides}
 use denote.Ref.{Bor}
 use Rattle.timefd_lang_component.specs.Tree.{Text}
-use Rattle.timefd_language.specs.declared.language.Language.{Language}
+use Rattle.timefd_language.specs.declared.description_version.Language.{Language}
 use Rattle.timefd_lint_diagnosis.specs.declared.diagnostic.Diagnostic.{Diagnostic}
-use Rattle.timefd_lint_rewrite.specs.declared.fixes.Fixes.{Fixes}
+use Rattle.timefd_lint_rewrite.specs.declared.cure.Fixes.{Fixes}
 use Rattle.timefd_lint_rewrite.specs.Cures.{IsCured, IsIncurable, IsNoEdit, edited, mark_for, word_for}
 
 -- The mark that is returned, or else the word.

@@ -10,8 +10,8 @@ use Rattle.timefd_lang_dialect.specs.Items.{IsSpelledBy}
 use Rattle.timefd_lang_dialect.specs.Reading.{RefusedAt}
 use Rattle.timefd_lang_fault.specs.Faults.{fault_of}
 use Rattle.timefd_lang_fault.specs.declared.invalid_format_description.InvalidFormatDescription.{InvalidFormatDescription}
-use Rattle.timefd_lang_fault.specs.declared.parse_error.ParseError.{ParseError}
-use Rattle.timefd_lang_fault.specs.declared.parse_error.ParseError.TheVariants.{Invalid}
+use Rattle.timefd_lang_fault.specs.declared.borrowed_parse_error.ParseError.{ParseError}
+use Rattle.timefd_lang_fault.specs.declared.borrowed_parse_error.ParseError.TheVariants.{Invalid}
 use Rattle.timefd_lint_rewrite.specs.declared.layout.Layout.{Layout}
 use Rattle.timefd_lint_rewrite.specs.declared.layout.Layout.TheVariants.{Least, Normal, Fixed}
 use Rattle.timefd_lint_rewrite.specs.declared.line_change.LineChange.TheVariants.{Own, Other}

@@ -3,13 +3,13 @@ use Rattle.std.specs.Prelude.{ℕ, zero, suc, ◌≡◌, ◌≤◌, List, ◌⊎
 use Rattle.timefd_lang_component.specs.Tree.{Text, Tree}
 use Rattle.timefd_lang_fault.specs.Faults.{Fault, fault_of}
 use Rattle.timefd_language.specs.Grammar.{nesting_limit}
-use Rattle.timefd_lang_fault.specs.declared.parse_error.ParseError.{ParseError}
-use Rattle.timefd_lang_fault.specs.declared.parse_error.ParseError.TheVariants.{Invalid, Memory}
-use Rattle.timefd_language.specs.declared.language.Language.{Language}
+use Rattle.timefd_lang_fault.specs.declared.borrowed_parse_error.ParseError.{ParseError}
+use Rattle.timefd_lang_fault.specs.declared.borrowed_parse_error.ParseError.TheVariants.{Invalid, Memory}
+use Rattle.timefd_language.specs.declared.description_version.Language.{Language}
 use Rattle.timefd_parse.specs.Language.{FaultIn, SpellsIn}
 use Rattle.timefd_lint_diagnosis.specs.declared.diagnostic.Diagnostic.{Diagnostic}
 use Rattle.timefd_lint_diagnosis.specs.Diagnoses.{IsDiagnosis, IsOfFault}
-use Rattle.timefd_lint_rewrite.specs.declared.fixes.Fixes.{Fixes}
+use Rattle.timefd_lint_rewrite.specs.declared.cure.Fixes.{Fixes}
 use Rattle.timefd_lint_rewrite.specs.declared.fixing.TheConstants.{FIX_LIMIT}
 use Rattle.timefd_lint_rewrite.specs.Cures.{IsCured, IsIncurable}
 

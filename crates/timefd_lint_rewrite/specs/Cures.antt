@@ -3,16 +3,16 @@ use Rattle.std.specs.Prelude.{ℕ, ◌≡◌, ◌++◌, codes, Option, Some, Non
 use Rattle.std.specs.Str.{IsCharBoundary}
 use Rattle.timefd_lang_component.specs.Tree.{Text}
 use Rattle.timefd_lang_fault.specs.Faults.{fault_of}
-use Rattle.timefd_language.specs.declared.language.Language.{Language}
-use Rattle.timefd_language.specs.declared.language.Language.TheVariants.{Version, Strftime}
+use Rattle.timefd_language.specs.declared.description_version.Language.{Language}
+use Rattle.timefd_language.specs.declared.description_version.Language.TheVariants.{Version, Strftime}
 use Rattle.timefd_lang_fault.specs.declared.code.Code.{Code}
 use Rattle.timefd_lang_fault.specs.declared.code.Code.TheVariants.{UnclosedBracket, UnknownName, InvalidModifier, MissingName, MissingModifier, InvalidEscape, UnescapedBracket, MissingSpace, MissingDescription, MissingAlternative, NestedTooDeep, SeveralDescriptions, OptionalItem, FirstItem, UnsupportedFlag, UnsupportedLetter, NestedInComponent, DuplicateModifier, RefusedModifier}
 use Rattle.timefd_lint_diagnosis.specs.declared.diagnostic.Diagnostic.{Diagnostic}
 use Rattle.timefd_lint_diagnosis.specs.declared.help.Help.{Help}
 use Rattle.timefd_lang_fault.specs.Codes.{code_of}
 use Rattle.timefd_lint_diagnosis.specs.Helps.{nearest_in}
-use Rattle.timefd_lint_rewrite.specs.declared.fixes.Fixes.{Fixes}
-use Rattle.timefd_lint_rewrite.specs.declared.fixes.Fixes.TheVariants.{Sure, All}
+use Rattle.timefd_lint_rewrite.specs.declared.cure.Fixes.{Fixes}
+use Rattle.timefd_lint_rewrite.specs.declared.cure.Fixes.TheVariants.{Sure, All}
 
 -- The mark that makes an escape of a byte that doesn't begin a valid one: the same byte again, which is a
 -- guess.

@@ -1,13 +1,21 @@
-//! Writes the cure of one fault.
+//! Writes the cure of one fault, if it may be written.
 
 ghost use Rattle.std.specs.Prelude.{◌≡◌, IfOk, MatchOption, option_map, string_bytes};
 ghost use Rattle.std.specs.Str.{IsCharBoundary};
 ghost use Rattle.timefd_lint_rewrite.specs.Cures as spec;
 
-use crate::fixes::Fixes;
 use std::alloc::{AllocError, Global};
 use timefd_lint_diagnosis::{Code, Diagnostic, Help};
 use timefd_parse::Language;
+
+/// Which fixes may be written against faults.
+#[derive(Clone, Copy)]
+pub enum Fixes {
+    /// Only what is sure: a space before a nested description, a backslash before a `]`.
+    Sure,
+    /// Also guesses: the nearest word instead of an invalid one, and a second backslash or percent sign.
+    All,
+}
 
 /// The text with the cure of its diagnostic written, or `None` if no cure may be written. An `Err` says that
 /// memory ran out.

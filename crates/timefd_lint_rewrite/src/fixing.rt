@@ -9,8 +9,7 @@ ghost use Rattle.timefd_lang_fault.specs.Reported.{MemoryAlone};
 ghost use Rattle.timefd_parse.specs.Language.{FaultIn, IsAssignedIn, SpellsIn};
 ghost use Rattle.timefd_lint_rewrite.specs.Chains.{IsFixed, IsLeftOf, IsMended, IsUnmendedOf};
 
-use crate::cure::cured;
-use crate::fixes::Fixes;
+use crate::cure::{Fixes, cured};
 use std::alloc::Global;
 use timefd_lint_diagnosis::diagnose;
 use timefd_parse::{Language, NESTING_LIMIT, ParseError, amount_all_borrowed};

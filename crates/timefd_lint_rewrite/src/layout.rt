@@ -7,7 +7,7 @@ ghost use Rattle.timefd_parse.specs.Language.{IsAssignedIn};
 ghost use Rattle.timefd_lang_convert.specs.Conversions.{language_of};
 ghost use Rattle.timefd_lint_rewrite.specs.Layouts.{IsRewritten, IsConverted, IsLeast, IsRefusal};
 
-use crate::fixes::Fixes;
+use crate::cure::Fixes;
 use crate::fixing::fixed;
 use crate::nearest::nearest_to;
 use std::alloc::Global;

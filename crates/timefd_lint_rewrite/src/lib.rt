@@ -7,7 +7,6 @@
 mod counts;
 mod cure;
 mod diff;
-mod fixes;
 mod fixing;
 mod layout;
 mod line_change;
@@ -17,8 +16,8 @@ mod pairs;
 mod rewrite;
 
 pub use counts::{Counts, LineOutcome};
+pub use cure::Fixes;
 pub use diff::write_diff;
-pub use fixes::Fixes;
 pub use fixing::{FIX_LIMIT, fixed};
 pub use layout::{Layout, lay_out};
 pub use line_change::{LineChange, changed_text};

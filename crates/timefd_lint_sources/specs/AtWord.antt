@@ -1,7 +1,7 @@
 -- A message on a word in a comment.
 use Rattle.std.specs.Prelude.{None, Some}
 use Rattle.timefd_lang_component.specs.Tree.{Text}
-use Rattle.timefd_lint_diagnosis.specs.declared.span.Span.{Span}
+use Rattle.timefd_lint_diagnosis.specs.declared.diagnostic.Span.{Span}
 use Rattle.timefd_lint_drawing.specs.declared.draw.Format.{Format}
 use Rattle.timefd_lint_drawing.specs.declared.draw.Style.{Style}
 use Rattle.timefd_lint_drawing.specs.declared.severity.FindingSeverity.TheVariants.{Error}

@@ -2,7 +2,7 @@
 use Rattle.std.specs.Prelude.{ℕ, ◌≡◌, ◌⊎◌, ◌-◌, true, false, List, [], ◌∷◌, ◌++◌, codes, Option, None, Some, drop, length, option_map}
 use Rattle.timefd_lang_component.specs.Tree.{Text}
 use Rattle.timefd_lint_drawing.specs.declared.draw.Style.{Style}
-use Rattle.timefd_lint_diagnosis.specs.declared.span.Span.{Span}
+use Rattle.timefd_lint_diagnosis.specs.declared.diagnostic.Span.{Span}
 use Rattle.timefd_lint_diagnosis.specs.Nearest.{IsNearest}
 use Rattle.timefd_lint_drawing.specs.Positions.{after, front}
 use Rattle.timefd_lint_drawing.specs.Shown.{cut_end, most_of_a_word, safe}

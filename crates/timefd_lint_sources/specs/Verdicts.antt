@@ -8,7 +8,7 @@ use Rattle.timefd_lang_warnings.specs.declared.levels.Level.TheVariants.{Allowed
 use Rattle.timefd_lang_warnings.specs.declared.levels.Levels.{Levels}
 use Rattle.timefd_lang_warnings.specs.Levels.{all_at}
 use Rattle.timefd_language.specs.Grammar.{nesting_limit}
-use Rattle.timefd_language.specs.declared.language.Language.{Language}
+use Rattle.timefd_language.specs.declared.description_version.Language.{Language}
 use Rattle.timefd_lint_diagnosis.specs.declared.diagnostic.Diagnostic.{Diagnostic}
 use Rattle.timefd_lint_diagnosis.specs.Further.{AreDiagnosed}
 use Rattle.timefd_lint_scan.specs.declared.description.SourceDescription.{SourceDescription}

@@ -8,7 +8,7 @@ ghost use Rattle.timefd_lang_fault.specs.Codes as codes;
 ghost use Rattle.timefd_lang_fault.specs.Faults.{Fault};
 ghost use Rattle.timefd_language.specs.Grammar.{nesting_limit};
 ghost use Rattle.timefd_parse.specs.Language.{FaultIn};
-ghost use Rattle.timefd_language.specs.declared.language.Language as language;
+ghost use Rattle.timefd_language.specs.declared.description_version.Language as language;
 ghost use Rattle.timefd_lint_sources.specs.Items.{IsAllOpened, IsItemFault, IsOpened, opened};
 ghost use Rattle.timefd_lint_sources.specs.Items as spec;
 

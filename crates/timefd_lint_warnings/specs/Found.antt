@@ -5,8 +5,8 @@ use Rattle.timefd_lang_node_list.specs.Item.Meaning.{item_trees}
 use Rattle.timefd_items.specs.Description.{description_tree}
 use Rattle.timefd_lang_node_list.specs.Leaves.{leaves, leaves_all, leaves_in}
 use Rattle.timefd_language.specs.Grammar.{nesting_limit}
-use Rattle.timefd_language.specs.declared.language.Language.{Language}
-use Rattle.timefd_language.specs.declared.language.Language.TheVariants.{Version, Strftime}
+use Rattle.timefd_language.specs.declared.description_version.Language.{Language}
+use Rattle.timefd_language.specs.declared.description_version.Language.TheVariants.{Version, Strftime}
 use Rattle.timefd_parse.specs.Language.{SpellsIn}
 use Rattle.timefd_parse.specs.declared.parsing.BorrowedOutput.{BorrowedOutput}
 use Rattle.timefd_parse.specs.declared.parsing.BorrowedOutput.TheVariants.{Items, Description}

@@ -19,8 +19,8 @@ use Rattle.timefd_language.specs.Strftime.{SpellsStrftime, no_directives, direct
 use Rattle.timefd_language.proofs.LawLemmas.{one_answer_law}
 use Rattle.timefd_language.proofs.StrftimeReader.{strftime_one_answer_law}
 use Rattle.timefd_language.specs.Directives.StrftimeReading as strftime
-use Rattle.timefd_language.specs.declared.language.Language.{Language}
-use Rattle.timefd_language.specs.declared.language.Language.TheVariants.{Version, Strftime}
+use Rattle.timefd_language.specs.declared.description_version.Language.{Language}
+use Rattle.timefd_language.specs.declared.description_version.Language.TheVariants.{Version, Strftime}
 use Rattle.timefd_parse.specs.FirstPiece.{LeadsIn, EndsWith, IsAfterFirst, IsFirst, BeginsList}
 use Rattle.timefd_parse.specs.Language.{SpellsIn, FaultIn}
 use Rattle.timefd_parse.specs.Read.{IsFaultIn, Leads}

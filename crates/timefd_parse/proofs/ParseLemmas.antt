@@ -12,10 +12,10 @@ use Rattle.timefd_language.specs.declared.description_version.DescriptionVersion
 use Rattle.timefd_lang_fault.specs.declared.read_error.Fault as code_fault
 use Rattle.timefd_lang_fault.specs.declared.read_error.ReadError.{ReadError}
 use Rattle.timefd_lang_fault.specs.declared.read_error.ReadError.TheVariants as errors
-use Rattle.timefd_language.specs.declared.language.Language.TheVariants.{Version}
+use Rattle.timefd_language.specs.declared.description_version.Language.TheVariants.{Version}
 use Rattle.timefd_parse.specs.declared.parsing.BorrowedOutput.TheVariants.{Items}
-use Rattle.timefd_lang_fault.specs.declared.parse_error.ParseError.{ParseError}
-use Rattle.timefd_lang_fault.specs.declared.parse_error.ParseError.TheVariants as reported
+use Rattle.timefd_lang_fault.specs.declared.borrowed_parse_error.ParseError.{ParseError}
+use Rattle.timefd_lang_fault.specs.declared.borrowed_parse_error.ParseError.TheVariants as reported
 use Rattle.timefd_lang_fault.specs.declared.borrowed_parse_error.BorrowedParseError.{BorrowedParseError}
 use Rattle.timefd_lang_fault.specs.declared.borrowed_parse_error.BorrowedParseError.TheVariants as answers
 use Rattle.timefd_lang_fault.specs.BorrowedFaults.{IsBorrowed, IsBorrowedOf, IsMemory, IsOwned, IsRefusal, Borrows, BorrowsSpan}

@@ -9,10 +9,10 @@ use Rattle.timefd_lang_component.specs.Tree.{Text, Tree, pack}
 use Rattle.timefd_lang_fault.specs.Faults.{Fault, fault_of}
 use Rattle.timefd_lang_component.specs.Reserved.{reserve}
 use Rattle.timefd_language.specs.declared.description_version.DescriptionVersion.TheVariants.{One, Two, Three}
-use Rattle.timefd_language.specs.declared.language.Language.{Language}
-use Rattle.timefd_language.specs.declared.language.Language.TheVariants.{Version, Strftime}
-use Rattle.timefd_lang_fault.specs.declared.parse_error.ParseError.{ParseError}
-use Rattle.timefd_lang_fault.specs.declared.parse_error.ParseError.TheVariants.{Invalid, Memory}
+use Rattle.timefd_language.specs.declared.description_version.Language.{Language}
+use Rattle.timefd_language.specs.declared.description_version.Language.TheVariants.{Version, Strftime}
+use Rattle.timefd_lang_fault.specs.declared.borrowed_parse_error.ParseError.{ParseError}
+use Rattle.timefd_lang_fault.specs.declared.borrowed_parse_error.ParseError.TheVariants.{Invalid, Memory}
 use Rattle.timefd_language.specs.Grammar.{Spells}
 use Rattle.timefd_language.specs.Spans.{HasSpan}
 use Rattle.timefd_language.specs.Broken.{FaultOf}

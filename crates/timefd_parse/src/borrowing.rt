@@ -7,7 +7,7 @@ ghost use Rattle.timefd_lang_fault.specs.Faults as spec;
 ghost use Rattle.timefd_items.specs.Description.{description_tree};
 ghost use Rattle.timefd_lang_component.specs.Reserved.{reserve};
 ghost use Rattle.timefd_language.specs.declared.description_version.DescriptionVersion.TheVariants.{Three};
-ghost use Rattle.timefd_language.specs.declared.language.Language as spec_language;
+ghost use Rattle.timefd_language.specs.declared.description_version.Language as spec_language;
 ghost use Rattle.timefd_language.specs.Bytes.{is_version_three};
 ghost use Rattle.timefd_language.specs.Spans.{HasSpan};
 ghost use Rattle.timefd_language.specs.Grammar.{Spells, nesting_limit};

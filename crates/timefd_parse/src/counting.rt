@@ -13,7 +13,7 @@ ghost use Rattle.timefd_lang_fault.specs.ReadErrors.{MemoryOr};
 ghost use Rattle.timefd_language.specs.Grammar.{Spells};
 ghost use Rattle.timefd_lang_fault.specs.ReadErrors.{IsInvalid};
 ghost use Rattle.timefd_language.specs.declared.description_version.DescriptionVersion.TheVariants.{Three};
-ghost use Rattle.timefd_language.specs.declared.language.Language as spec_language;
+ghost use Rattle.timefd_language.specs.declared.description_version.Language as spec_language;
 ghost use Rattle.timefd_language.specs.Spans.{HasSpan, SpansVersion};
 ghost use Rattle.timefd_parse.specs.Language.{IsAmount};
 ghost use Rattle.timefd_parse.specs.Pieces as spec;

@@ -8,7 +8,7 @@ ghost use Rattle.timefd_language.specs.Grammar.{nesting_limit};
 ghost use Rattle.timefd_language.specs.Spans.{HasSpan};
 ghost use Rattle.timefd_parse.specs.FirstPiece.{BeginsList, EndsWith, IsAfterFirst, IsFirst};
 ghost use Rattle.timefd_parse.specs.Language.{SpellsIn, FaultIn};
-ghost use Rattle.timefd_language.specs.declared.language.Language as spec_language;
+ghost use Rattle.timefd_language.specs.declared.description_version.Language as spec_language;
 
 use crate::parsing::NESTING_LIMIT;
 use crate::read::next_piece;

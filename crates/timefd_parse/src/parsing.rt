@@ -11,7 +11,7 @@ ghost use Rattle.timefd_language.specs.Bytes.{is_version_three};
 ghost use Rattle.timefd_language.specs.Grammar.{Spells, nesting_limit};
 ghost use Rattle.timefd_language.specs.Broken.{FaultOf};
 ghost use Rattle.timefd_language.specs.Spans.{HasSpanWithin};
-ghost use Rattle.timefd_language.specs.declared.language.Language as spec_language;
+ghost use Rattle.timefd_language.specs.declared.description_version.Language as spec_language;
 ghost use Rattle.timefd_lang_fault.specs.Placed.{HasPlacedFault};
 ghost use Rattle.timefd_parse.specs.Answers.{IsOutput, IsAssigned, ReservesAtMost, HasStrings};
 ghost use Rattle.timefd_lang_fault.specs.Reported.{IsFaultOrMemory, MemoryAlone};
@@ -20,7 +20,7 @@ ghost use Rattle.timefd_language.specs.Strings.{AreItems};
 use crate::borrowing::{parse_all_borrowed, parse_items};
 use std::alloc::Global;
 use timefd_items::{BorrowedFormatItem, FormatDescriptionV3};
-use timefd_lang_fault::parse_error::ParseError;
+use timefd_lang_fault::ParseError;
 use timefd_language::description_version::DescriptionVersion;
 
 /// How deep descriptions may be nested.

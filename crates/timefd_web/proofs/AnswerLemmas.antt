@@ -2,7 +2,7 @@
 use Rattle.std.proofs.Common.{ℕ, ◌≡◌, Some, subst}
 use Rattle.timefd_lang_component.specs.Tree.{Text}
 use Rattle.timefd_date_moment.specs.declared.moment.Moment.{Moment}
-use Rattle.timefd_language.specs.declared.language.Language.{Language}
+use Rattle.timefd_language.specs.declared.description_version.Language.{Language}
 use Rattle.timefd_web.specs.declared.fields.MomentParts.{MomentParts}
 use Rattle.timefd_web.specs.Answers.{ReadsOf, ReportsOf, language_of}
 use Rattle.timefd_web.specs.Moments.{IsMoment}

@@ -8,7 +8,7 @@ use Rattle.timefd_lang_component.specs.Tree.{Text, Tree}
 use Rattle.timefd_lang_fault.specs.Faults.{Fault}
 use Rattle.timefd_language.specs.Grammar.{nesting_limit}
 use Rattle.timefd_date_moment.specs.declared.moment.Moment.{Moment}
-use Rattle.timefd_language.specs.declared.language.Language.{Language}
+use Rattle.timefd_language.specs.declared.description_version.Language.{Language}
 use Rattle.timefd_parse.specs.Language.{SpellsIn, FaultIn}
 use Rattle.timefd_description.specs.ReadAnswers.{IsReadAs, IsRefusedFor, fields_in}
 use Rattle.timefd_description.specs.declared.read_error.ReadTextError.{ReadTextError}

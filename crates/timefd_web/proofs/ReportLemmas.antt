@@ -19,7 +19,7 @@ use Rattle.timefd_date_format.specs.Written.{written_all}
 use Rattle.timefd_language.specs.Grammar.{nesting_limit}
 use Rattle.timefd_date_moment.specs.declared.moment.Moment.{Moment}
 use Rattle.timefd_lang_node_list.specs.Nodes.{kept_bytes}
-use Rattle.timefd_language.specs.declared.language.Language.{Language}
+use Rattle.timefd_language.specs.declared.description_version.Language.{Language}
 use Rattle.timefd_parse.specs.Language.{SpellsIn, FaultIn}
 use Rattle.timefd_web.specs.declared.later.Later.{Later}
 use Rattle.timefd_web.specs.Objects.{accepted_object, refused_object}

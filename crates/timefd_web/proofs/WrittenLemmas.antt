@@ -7,7 +7,7 @@ use Rattle.std.specs.declared.string.String.{String}
 use Rattle.std.specs.declared.vec.Vec.{Vec}
 use Rattle.timefd_lang_fault.specs.declared.borrowed_fault.BorrowedFault.{BorrowedFault}
 use Rattle.timefd_lang_component.specs.Tree.{Text}
-use Rattle.timefd_date_format.specs.declared.unshown.Unshown.{Unshown}
+use Rattle.timefd_date_format.specs.declared.field.Unshown.{Unshown}
 use Rattle.timefd_description.specs.Formatted.{IsShownAs}
 use Rattle.timefd_description.specs.declared.format_error.FormatTextError.TheVariants as fails
 use Rattle.timefd_web.specs.Reports.{IsTextOf, IsWritten}

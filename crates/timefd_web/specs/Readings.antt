@@ -7,7 +7,7 @@ use Rattle.timefd_date_format.specs.Sentences.{name}
 use Rattle.timefd_language.specs.Grammar.{nesting_limit}
 use Rattle.timefd_date_moment.specs.Display.{moment_text}
 use Rattle.timefd_date_moment.specs.declared.moment.Moment.{Moment}
-use Rattle.timefd_language.specs.declared.language.Language.{Language}
+use Rattle.timefd_language.specs.declared.description_version.Language.{Language}
 use Rattle.timefd_parse.specs.Language.{SpellsIn, FaultIn}
 use Rattle.timefd_date_moment.specs.declared.fields.fault.ReadError.{ReadError}
 use Rattle.timefd_date_moment.specs.declared.fields.fault.UnreadReason.{UnreadReason}

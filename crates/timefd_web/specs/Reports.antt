@@ -13,7 +13,7 @@ use Rattle.timefd_lint_explain.specs.Parts.{AreParts, all_parts}
 use Rattle.timefd_lint_explain.specs.Stands.{NodesStand}
 use Rattle.timefd_lint_explain.specs.declared.explain.Explanation.{Explanation}
 use Rattle.timefd_lang_fault.specs.Faults.{fault_of}
-use Rattle.timefd_date_format.specs.declared.unshown.Unshown.{Unshown}
+use Rattle.timefd_date_format.specs.declared.field.Unshown.{Unshown}
 use Rattle.timefd_date_format.specs.Written.{written_all}
 use Rattle.timefd_language.specs.declared.description_version.DescriptionVersion.TheVariants.{One, Two, Three}
 use Rattle.timefd_language.specs.Grammar.{nesting_limit}
@@ -21,8 +21,8 @@ use Rattle.timefd_lift.specs.Answers.{IsRewritten}
 use Rattle.timefd_lift.specs.Modernized.{IsWrittenOf}
 use Rattle.timefd_date_moment.specs.declared.moment.Moment.{Moment}
 use Rattle.timefd_lang_node_list.specs.Nodes.{kept_bytes}
-use Rattle.timefd_language.specs.declared.language.Language.{Language}
-use Rattle.timefd_language.specs.declared.language.Language.TheVariants.{Version, Strftime}
+use Rattle.timefd_language.specs.declared.description_version.Language.{Language}
+use Rattle.timefd_language.specs.declared.description_version.Language.TheVariants.{Version, Strftime}
 use Rattle.timefd_parse.specs.Language.{SpellsIn, FaultIn}
 use Rattle.timefd_web.specs.declared.later.Later.{Later}
 use Rattle.timefd_web.specs.Objects.{accepted_object, refused_object}

@@ -9,7 +9,7 @@ use Rattle.timefd_c_nodes.specs.declared.node.RawNode.{RawNode}
 use Rattle.timefd_c_nodes.specs.Decoding.{component_of, format_of}
 use Rattle.timefd_c_nodes.specs.Formatting.Forward.{role_text}
 use Rattle.timefd_c_nodes.specs.Formatting.Parts.{by_kind, component_role, kind_of, literal_role, perhaps_role, role_in, shown_role}
-use Rattle.timefd_date_format.specs.declared.unshown.Unshown.{Unshown}
+use Rattle.timefd_date_format.specs.declared.field.Unshown.{Unshown}
 use Rattle.timefd_date_format.specs.Appends.{IsAppended, TriesToAppend}
 use Rattle.timefd_date_format.specs.Written as written
 use Rattle.timefd_date_format.proofs.AppendLemmas as append

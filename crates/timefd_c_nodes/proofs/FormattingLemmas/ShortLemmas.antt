@@ -2,7 +2,7 @@
 use Rattle.std.proofs.Common.{ℕ, ◌≡◌, ◌^◌, ◌<◌, ◌≤◌, ◌++◌, ◌∙◌, length, drop, Result, Ok, Err, sym, subst, arith}
 use Rattle.timefd_lang_component.specs.Tree.{Text}
 use Rattle.timefd_date_format.specs.declared.cursor.WriteCursor.TheVariants as cursor
-use Rattle.timefd_date_format.specs.declared.unshown.Unshown.{Unshown}
+use Rattle.timefd_date_format.specs.declared.field.Unshown.{Unshown}
 use Rattle.timefd_date_format.specs.Writes.{Writes}
 use Rattle.timefd_date_format.proofs.OutcomeLemmas.{ends_with, placed}
 use Rattle.timefd_c_nodes.specs.Formatting.Texts.{IsShown, ShowsNodes}

@@ -9,7 +9,7 @@ use Rattle.timefd_date_moment.specs.declared.moment.Moment.{Moment}
 use Rattle.timefd_lang_node_list.specs.Leaves.{leaves_in}
 use Rattle.timefd_date_format.specs.declared.cursor.WriteCursor.{WriteCursor}
 use Rattle.timefd_date_format.specs.declared.cursor.WriteCursor.TheVariants as cursor
-use Rattle.timefd_date_format.specs.declared.unshown.Unshown.{Unshown}
+use Rattle.timefd_date_format.specs.declared.field.Unshown.{Unshown}
 use Rattle.timefd_date_format.specs.declared.write.FormatError.{FormatError}
 use Rattle.timefd_date_format.specs.declared.write.FormatError.TheVariants as fails
 use Rattle.timefd_date_format.specs.Fields.{field}

@@ -16,7 +16,7 @@ use Rattle.timefd_lang_fault.specs.ReadErrors.{IsInvalid}
 use Rattle.timefd_language.specs.Strftime.{StrftimeFaultOf, directives_text, ill_fault, no_directives}
 use Rattle.timefd_lang_node_list.specs.Views.{walked}
 use Rattle.timefd_lang_component.specs.Reserved.{reserve}
-use Rattle.timefd_language.specs.declared.language.Language.TheVariants.{Version}
+use Rattle.timefd_language.specs.declared.description_version.Language.TheVariants.{Version}
 use Rattle.timefd_parse.specs.declared.piece.Piece.{Piece}
 use Rattle.timefd_parse.specs.declared.piece.Piece.TheVariants as pieces
 use Rattle.timefd_parse.specs.Pieces.{IsLeafTree}

@@ -17,7 +17,7 @@ use Rattle.timefd_language.specs.Names.{Row, row_of}
 use Rattle.timefd_language.specs.Verdict.{PlacedDescription, bad_modifiers, settings, made, is_formatted, only, component_verdict, verdict}
 use Rattle.timefd_language.specs.Grammar.{Pieces, no_pieces, run, escape, closing, bracket, Nested, no_nested, nested, spelling, nested_text, items, ArePieces, AreNested, parts_from}
 use Rattle.timefd_language.proofs.Roomy.{after_ok, made_ok, verdict_has}
-use Rattle.timefd_language.specs.declared.language.Language.TheVariants.{Version, Strftime}
+use Rattle.timefd_language.specs.declared.description_version.Language.TheVariants.{Version, Strftime}
 use Rattle.timefd_parse.specs.Language.{SpellsIn}
 use Rattle.timefd_c_nodes.proofs.WriteLemmas.{literals-length}
 

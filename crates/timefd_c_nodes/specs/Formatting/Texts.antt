@@ -2,7 +2,7 @@
 use Rattle.std.specs.Prelude.{◌≡◌, ◌<◌, ◌≤◌, ◌++◌, length, drop, Result, Ok, Err}
 use Rattle.timefd_lang_component.specs.Tree.{Text}
 use Rattle.timefd_lang_node_list.specs.Nodes.{kept_bytes}
-use Rattle.timefd_date_format.specs.declared.unshown.Unshown.{Unshown}
+use Rattle.timefd_date_format.specs.declared.field.Unshown.{Unshown}
 use Rattle.timefd_c_nodes.specs.declared.formatting.format.NodesText.{NodesText}
 use Rattle.timefd_c_nodes.specs.declared.formatting.format.NodesError.{NodesError}
 use Rattle.timefd_c_nodes.specs.declared.formatting.format.NodesError.TheVariants as fails

@@ -5,7 +5,7 @@ use Rattle.timefd_lang_component.specs.Reserved.{reserve, reserve_all}
 use Rattle.timefd_lang_component.specs.Tree.{Text, Tree, trees}
 use Rattle.timefd_lang_node_list.specs.Nodes.{kept_bytes}
 use Rattle.timefd_lang_node_list.specs.Views.{walked}
-use Rattle.timefd_language.specs.declared.language.Language.TheVariants.{Strftime}
+use Rattle.timefd_language.specs.declared.description_version.Language.TheVariants.{Strftime}
 use Rattle.timefd_language.specs.declared.strftime.piece.StrftimePiece.{StrftimePiece}
 use Rattle.timefd_language.specs.Directives.PieceMeaning.{piece_tree}
 use Rattle.timefd_c_nodes.specs.declared.node.RawNode.{RawNode}

@@ -8,8 +8,8 @@ use Rattle.timefd_lang_component.specs.Tree.{Text, Tree, trees, pack}
 use Rattle.timefd_lang_node_list.specs.Nodes.{kept_bytes}
 use Rattle.timefd_lang_node_list.specs.Views.{walked, walked_all}
 use Rattle.timefd_language.specs.declared.description_version.DescriptionVersion.TheVariants.{One, Two, Three}
-use Rattle.timefd_language.specs.declared.language.Language.{Language}
-use Rattle.timefd_language.specs.declared.language.Language.TheVariants.{Version, Strftime}
+use Rattle.timefd_language.specs.declared.description_version.Language.{Language}
+use Rattle.timefd_language.specs.declared.description_version.Language.TheVariants.{Version, Strftime}
 use Rattle.timefd_lang_fault.specs.Faults.{Fault}
 use Rattle.timefd_parse.specs.Language.{FaultIn, SpellsIn, amount}
 use Rattle.timefd_c_nodes.specs.declared.node.RawNode.{RawNode}

@@ -1,12 +1,12 @@
-//! The date that fields determine.
+//! The date that fields determine, alone and with the time of day.
 
 ghost use Rattle.std.specs.Prelude.{◌≡◌, ◌≤◌, ◌+ℤ◌, pos, Ok};
+ghost use Rattle.timefd_date_moment.specs.Reading.DateTimes.{IsDateTimeOf};
 ghost use Rattle.timefd_date_moment.specs.Reading.Dates.{IsDateByParts, Selects};
 ghost use Rattle.timefd_date_moment.specs.Reading.Values.{IsDateOf};
 ghost use Rattle.timefd_date_moment.specs.Reading.Ways.{WayHas, date_way, way_years};
 ghost use Rattle.timefd_date_moment.specs.declared.reading.way.DateWay.TheVariants as by;
 
-use crate::Date;
 use crate::fields::Fields;
 use crate::reading::day::{
     date_of_day, iso_week_day, monday_week_day, ordinal_day, sunday_week_day,
@@ -17,8 +17,10 @@ use crate::reading::part::Part;
 use crate::reading::shown::date_contradiction;
 use crate::reading::stamp::instant_read;
 use crate::reading::stamped::of_stamp;
+use crate::reading::times::time;
 use crate::reading::way::{DateWay, date_way, has_way};
 use crate::reading::year::at_most;
+use crate::{Date, Time};
 
 /// The date that agrees with all that was read. A date is determined by year, month and day; by
 /// year and ordinal; by ISO year, ISO week and weekday; or by year, week from Sunday or from
@@ -36,6 +38,20 @@ pub fn date(fields: &Fields) -> Result<Date, ValueError>
             Err(error) => Err(error),
         },
         None => date_by_parts(fields),
+    }
+}
+
+/// The date and the time of day that agree with all that was read. An `Err` is that of the date, or
+/// else that of the time. Corresponds to `PrimitiveDateTime::try_from` for `Parsed` in `time`.
+pub fn date_time(fields: &Fields) -> Result<(Date, Time), ValueError>
+    ensures { IsDateTimeOf fields.now result }
+{
+    match date(fields) {
+        Ok(date) => match time(fields) {
+            Ok(time) => Ok((date, time)),
+            Err(error) => Err(error),
+        },
+        Err(error) => Err(error),
     }
 }
 

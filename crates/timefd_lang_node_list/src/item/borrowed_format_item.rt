@@ -1,4 +1,4 @@
-//! The items of versions 1 and 2 and of strftime, and their equality.
+//! The items of versions 1 and 2 and of strftime, their equality, and the error of a conversion from an item.
 
 ghost use Rattle.std.specs.Cmp.{on_equiv, on_per, partial_equiv_from_equiv};
 ghost use Rattle.std.specs.Prelude.{◌≡◌, map};
@@ -35,6 +35,11 @@ pub type FormatItem<'a> = BorrowedFormatItem<'a>;
 
 /// A description of items that live as long as the program.
 pub type StaticFormatDescription = &'static [BorrowedFormatItem<'static>];
+
+/// The item has another variant than the one that was asked for. This struct mirrors the one of the
+/// same name in `time`.
+#[derive(Debug, Clone, Copy, PartialEq, Eq)]
+pub struct DifferentVariant;
 
 #[cycle(same)]
 fn same<'a, 'b>(left: &BorrowedFormatItem<'a>, right: &BorrowedFormatItem<'b>) -> bool

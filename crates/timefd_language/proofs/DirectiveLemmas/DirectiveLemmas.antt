@@ -22,8 +22,8 @@ use Rattle.timefd_language.specs.Laws.{HasOneStrftimeAnswer}
 use Rattle.timefd_lang_fault.specs.declared.read_error.Fault as code_fault
 use Rattle.timefd_lang_fault.specs.declared.read_error.ReadError.{ReadError}
 use Rattle.timefd_lang_fault.specs.declared.read_error.ReadError.TheVariants as errors
-use Rattle.timefd_lang_fault.specs.declared.parse_error.ParseError.{ParseError}
-use Rattle.timefd_lang_fault.specs.declared.parse_error.ParseError.TheVariants as reported
+use Rattle.timefd_lang_fault.specs.declared.borrowed_parse_error.ParseError.{ParseError}
+use Rattle.timefd_lang_fault.specs.declared.borrowed_parse_error.ParseError.TheVariants as reported
 use Rattle.timefd_lang_fault.specs.declared.borrowed_fault.BorrowedFault.{BorrowedFault}
 use Rattle.timefd_lang_fault.specs.declared.borrowed_parse_error.BorrowedParseError.{BorrowedParseError}
 use Rattle.timefd_lang_fault.specs.declared.borrowed_parse_error.BorrowedParseError.TheVariants.{Invalid, Memory}
@@ -34,7 +34,7 @@ use Rattle.timefd_lang_fault.proofs.OwnedLemmas.{owned_of}
 use Rattle.timefd_language.specs.Fault.{raised}
 use Rattle.timefd_lang_fault.specs.Words.{expected_escape}
 use Rattle.timefd_language.specs.Cut.{IsCut}
-use Rattle.timefd_language.specs.declared.language.Language.TheVariants as languages
+use Rattle.timefd_language.specs.declared.description_version.Language.TheVariants as languages
 use Rattle.timefd_language.specs.Spans.{HasSpan, IsSpanned, SpansStrftime, WantsNothing, first_len, strftime_extent}
 use Rattle.timefd_language.proofs.SpanLemmas.{no_len, spanned, spans_after, spans_byte, spans_character}
 use Rattle.timefd_language.specs.Directives.StrftimeReading.{MayFollow, BeginsWithFlag, BeginsWithPiece, Leads, LeadsTo, HasItems, IsStrftimeFaultAt, IsStrftimeFaultIn, IsRestOf}

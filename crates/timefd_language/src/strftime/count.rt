@@ -8,7 +8,7 @@ ghost use Rattle.timefd_language.specs.Strftime.{SpellsStrftime, StrftimeFaultOf
 ghost use Rattle.timefd_lang_fault.specs.RuleKinds.{rule_kind};
 ghost use Rattle.timefd_lang_fault.specs.BorrowedFaults.{HasShortWords, to_borrowed_fault};
 ghost use Rattle.timefd_lang_fault.specs.Placed.{IsPlaced};
-ghost use Rattle.timefd_language.specs.declared.language.Language.TheVariants.{Strftime};
+ghost use Rattle.timefd_language.specs.declared.description_version.Language.TheVariants.{Strftime};
 ghost use Rattle.timefd_language.specs.Spans.{IsSpanned};
 ghost use Rattle.timefd_language.specs.Directives.StrftimeReading.{BeginsPiece, HasItems, IsStrftimeFaultAt, IsStrftimeFaultIn, LeadsTo};
 

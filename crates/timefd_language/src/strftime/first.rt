@@ -4,7 +4,7 @@ ghost use Rattle.std.specs.Prelude.{◌≡◌, [], IfOk, MatchOption, MatchResul
 ghost use Rattle.std.specs.Result.{IfErr};
 ghost use Rattle.timefd_lang_fault.specs.BorrowedFaults.{to_borrowed_fault};
 ghost use Rattle.timefd_language.specs.Strftime.{StrftimeFaultOf};
-ghost use Rattle.timefd_language.specs.declared.language.Language.TheVariants.{Strftime};
+ghost use Rattle.timefd_language.specs.declared.description_version.Language.TheVariants.{Strftime};
 ghost use Rattle.timefd_language.specs.Spans.{IsSpanned};
 ghost use Rattle.timefd_language.specs.Directives.StrftimeReading.{IsStrftimeFaultAt, LeadsTo};
 

@@ -13,15 +13,15 @@ ghost use Rattle.timefd_language.specs.Directives.StrftimeAnswers.{IsStrftimeFau
 ghost use Rattle.timefd_lang_fault.specs.ReadErrors.{MemoryOr};
 ghost use Rattle.timefd_language.specs.Directives.StrftimeReading.{IsStrftimeFaultIn};
 ghost use Rattle.timefd_language.specs.Strings.{are_of_strings};
-ghost use Rattle.timefd_language.specs.declared.language.Language.TheVariants.{Strftime};
+ghost use Rattle.timefd_language.specs.declared.description_version.Language.TheVariants.{Strftime};
 ghost use Rattle.timefd_language.specs.Spans.{HasSpan, HasSpanWithin};
 
 use crate::strftime::count::count_strftime;
 use crate::strftime::piece::next_strftime_piece;
 use crate::strftime::tables::StrftimeTables;
 use std::alloc::{AllocError, Global};
+use timefd_lang_fault::ParseError;
 use timefd_lang_fault::borrowed_parse_error::{BorrowedParseError, borrowed};
-use timefd_lang_fault::parse_error::ParseError;
 use timefd_lang_fault::read_error::ReadError;
 use timefd_lang_node_list::item::BorrowedFormatItem;
 

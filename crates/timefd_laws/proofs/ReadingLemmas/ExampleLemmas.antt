@@ -7,7 +7,7 @@ use Rattle.timefd_lang_component.specs.declared.component.Component.TheVariants.
 use Rattle.timefd_lang_component.specs.declared.component.Component.TheVariants.{MonthNumerical}
 use Rattle.timefd_lang_component.specs.Texts.{filled}
 use Rattle.timefd_lang_component.specs.Tree.{Text, optional}
-use Rattle.timefd_date_format.specs.declared.unshown.Unshown.{Unshown}
+use Rattle.timefd_date_format.specs.declared.field.Unshown.{Unshown}
 use Rattle.timefd_date_format.specs.Fields.{plain, year}
 use Rattle.timefd_date_format.specs.Puts.{pair}
 use Rattle.timefd_date_format.specs.Written.{followed, text_of, written}

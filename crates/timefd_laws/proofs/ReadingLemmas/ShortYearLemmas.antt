@@ -12,7 +12,7 @@ use Rattle.timefd_date_format.specs.Fields.{date_field, field, kind as kind_of, 
 use Rattle.timefd_date_format.specs.Written.{followed, shown, text_of, written}
 use Rattle.timefd_date_format.specs.declared.field.WrittenField.{WrittenField}
 use Rattle.timefd_date_format.specs.declared.field.Lack.{Lack}
-use Rattle.timefd_date_format.specs.declared.unshown.Unshown.{Unshown}
+use Rattle.timefd_date_format.specs.declared.field.Unshown.{Unshown}
 use Rattle.timefd_modifier.specs.declared.enums.Padding.{Padding}
 use Rattle.timefd_date_moment.specs.declared.date.Date.{Date}
 use Rattle.timefd_date_moment.specs.declared.time.Time.{Time}

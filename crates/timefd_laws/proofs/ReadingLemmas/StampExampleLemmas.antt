@@ -7,7 +7,7 @@ use Rattle.timefd_lang_component.specs.declared.component.Component.TheVariants.
 use Rattle.timefd_lang_component.specs.Texts.{at_least_one, filled, trimmed}
 use Rattle.timefd_lang_component.specs.Tree.{Text}
 use Rattle.timefd_date_format.specs.declared.field.WrittenField.TheVariants as shows
-use Rattle.timefd_date_format.specs.declared.unshown.Unshown.{Unshown}
+use Rattle.timefd_date_format.specs.declared.field.Unshown.{Unshown}
 use Rattle.timefd_date_format.specs.Fields.{instant_field}
 use Rattle.timefd_date_format.specs.Puts.{pair}
 use Rattle.timefd_date_format.specs.Written.{followed, text_of}

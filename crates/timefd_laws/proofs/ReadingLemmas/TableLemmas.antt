@@ -8,7 +8,7 @@ use Rattle.timefd_lang_component.specs.Texts.{filled, long_months, long_weekdays
 use Rattle.timefd_lang_component.specs.Tree.{Text}
 use Rattle.timefd_date_format.specs.declared.field.WrittenField.{WrittenField}
 use Rattle.timefd_date_format.specs.declared.field.Lack.{Lack}
-use Rattle.timefd_date_format.specs.declared.unshown.Unshown.{Unshown}
+use Rattle.timefd_date_format.specs.declared.field.Unshown.{Unshown}
 use Rattle.timefd_date_format.specs.Fields.{field, field_text, from_one, name_at, period_text}
 use Rattle.timefd_date_format.specs.Written.{text_of}
 use Rattle.timefd_modifier.specs.declared.enums.Padding.{Padding}

@@ -7,7 +7,7 @@ use Rattle.timefd_lang_component.specs.Tree.{Text, Tree, component, literal, com
 use Rattle.timefd_date_format.specs.declared.field.WrittenField.{WrittenField}
 use Rattle.timefd_date_format.specs.Kinds.{Kind}
 use Rattle.timefd_date_format.specs.declared.field.Lack.{Lack}
-use Rattle.timefd_date_format.specs.declared.unshown.Unshown.{Unshown}
+use Rattle.timefd_date_format.specs.declared.field.Unshown.{Unshown}
 use Rattle.timefd_date_format.specs.Fields.{field, kind}
 use Rattle.timefd_date_format.specs.Written.{followed, shown, text_of, written, written_all}
 use Rattle.timefd_date_moment.specs.declared.moment.Moment.{Moment}

@@ -13,7 +13,7 @@ use Rattle.timefd_lint_lsp.specs.Editor.Actions.{AreActionsBy, AreActionsIn, Are
 use Rattle.timefd_lint_lsp.specs.Editor.AllFixes.{IsFixAll, IsWritable}
 use Rattle.timefd_lint_lsp.specs.Editor.Each.{Adds, AreIf, AreOf}
 use Rattle.timefd_lint_lsp.specs.Editor.Edits.{AreEdits}
-use Rattle.timefd_lint_rewrite.specs.declared.fixes.Fixes.TheVariants as fixes
+use Rattle.timefd_lint_rewrite.specs.declared.cure.Fixes.TheVariants as fixes
 use Rattle.timefd_language.specs.declared.description_version.DescriptionVersion.TheVariants as versions
 use Rattle.timefd_lint_sources.specs.declared.reported.Finder.TheVariants.{Rust, Keys}
 use Rattle.timefd_lint_sources.specs.declared.reported.SourceText.{SourceText}

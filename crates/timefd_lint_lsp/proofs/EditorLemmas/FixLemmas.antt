@@ -12,7 +12,7 @@ use Rattle.timefd_lint_lsp.specs.declared.editor.action.Edit.{Edit}
 use Rattle.timefd_lint_lsp.specs.Editor.AllFixes.{AreAsOneAction, AreFixes, AreFixesTo, IsFixAll, IsWritable}
 use Rattle.timefd_lint_lsp.specs.Editor.Each.{Adds, AreIf, AreOf}
 use Rattle.timefd_lint_lsp.specs.Editor.Edits.{AreEdits}
-use Rattle.timefd_lint_rewrite.specs.declared.fixes.Fixes.TheVariants.{Sure}
+use Rattle.timefd_lint_rewrite.specs.declared.cure.Fixes.TheVariants.{Sure}
 use Rattle.timefd_lint_sources.specs.declared.rewriting.answer.NewParts.{NewParts}
 use Rattle.timefd_lint_sources.specs.declared.rewriting.answer.Answer.TheVariants.{Stays, Becomes}
 use Rattle.timefd_lint_sources.specs.declared.rewriting.change.Change.TheVariants.{Mended}

@@ -13,8 +13,8 @@ use Rattle.timefd_language.specs.Strftime.{directive_items, directives_text, no_
 use Rattle.timefd_language.specs.Directives.PieceMeaning.{piece_tree}
 use Rattle.timefd_language.specs.Directives.StrftimeReading as strftime
 use Rattle.timefd_language.specs.declared.description_version.DescriptionVersion.{DescriptionVersion}
-use Rattle.timefd_language.specs.declared.language.Language.{Language}
-use Rattle.timefd_language.specs.declared.language.Language.TheVariants.{Version, Strftime}
+use Rattle.timefd_language.specs.declared.description_version.Language.{Language}
+use Rattle.timefd_language.specs.declared.description_version.Language.TheVariants.{Version, Strftime}
 use Rattle.timefd_language.specs.declared.strftime.piece.StrftimePiece.{StrftimePiece}
 use Rattle.timefd_language.proofs.DirectiveLemmas.DirectiveLemmas as directives
 use Rattle.timefd_lint_lsp.specs.Editor.GoodFronts.{BeginsNoPiece, IsGoodFront}

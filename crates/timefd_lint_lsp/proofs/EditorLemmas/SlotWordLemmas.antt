@@ -16,8 +16,8 @@ use Rattle.timefd_language.specs.Values.{key_in}
 use Rattle.timefd_language.specs.Names.{row_for}
 use Rattle.timefd_language.proofs.Spans.{all-append, all-implied, zero_from_one, stops_one, stops_zero, white-not_word, key-not_white}
 use Rattle.timefd_parse.proofs.BracketLemmas.{SameCut, same_cut}
-use Rattle.timefd_lang_fault.specs.declared.slot.Slot.{Slot}
-use Rattle.timefd_lang_fault.specs.declared.slot.Slot.TheVariants as slots
+use Rattle.timefd_lang_fault.specs.declared.rule.Slot.{Slot}
+use Rattle.timefd_lang_fault.specs.declared.rule.Slot.TheVariants as slots
 use Rattle.timefd_language.specs.Slots.{colon_before, IsSlotAt, IsSlotIn, IsSlotAfter}
 use Rattle.timefd_lint_lsp.specs.Editor.SlotSearches.{is_inside, EndsHead, BeginsNoModifier, NamesHead, IsNamedHead}
 use Rattle.timefd_lint_lsp.proofs.EditorLemmas.SlotLemmas.{white-inside, key-inside, word_after, cut_white}

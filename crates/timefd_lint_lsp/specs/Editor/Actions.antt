@@ -8,7 +8,7 @@ use Rattle.timefd_lint_lsp.specs.declared.editor.action.WantedActions.{WantedAct
 use Rattle.timefd_lint_lsp.specs.Editor.AllFixes.{IsFixAll, IsWritable}
 use Rattle.timefd_lint_lsp.specs.Editor.Each.{AreIf, AreOf}
 use Rattle.timefd_lint_lsp.specs.Editor.Edits.{AreEdits}
-use Rattle.timefd_lint_rewrite.specs.declared.fixes.Fixes.TheVariants as fixes
+use Rattle.timefd_lint_rewrite.specs.declared.cure.Fixes.TheVariants as fixes
 use Rattle.timefd_language.specs.declared.description_version.DescriptionVersion.TheVariants as versions
 use Rattle.timefd_lint_sources.specs.declared.reported.Finder.{Finder}
 use Rattle.timefd_lint_sources.specs.declared.reported.Finder.TheVariants.{Rust, Keys}

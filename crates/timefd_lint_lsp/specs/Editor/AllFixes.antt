@@ -6,7 +6,7 @@ use Rattle.timefd_lint_lsp.specs.declared.editor.action.ActionKind.TheVariants.{
 use Rattle.timefd_lint_lsp.specs.declared.editor.action.Edit.{Edit}
 use Rattle.timefd_lint_lsp.specs.Editor.Each.{AreOf}
 use Rattle.timefd_lint_lsp.specs.Editor.Edits.{AreEdits}
-use Rattle.timefd_lint_rewrite.specs.declared.fixes.Fixes.TheVariants.{Sure}
+use Rattle.timefd_lint_rewrite.specs.declared.cure.Fixes.TheVariants.{Sure}
 use Rattle.timefd_lint_sources.specs.declared.rewriting.answer.NewParts.{NewParts}
 use Rattle.timefd_lint_sources.specs.declared.rewriting.answer.Answer.{Answer}
 use Rattle.timefd_lint_sources.specs.declared.rewriting.answer.Answer.TheVariants.{Stays, Becomes}

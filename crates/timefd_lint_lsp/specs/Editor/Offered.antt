@@ -2,8 +2,8 @@
 use Rattle.std.specs.Prelude.{Bool, true, not, ◌&&◌, ◌||◌, List}
 use Rattle.std.specs.List.{filter}
 use Rattle.timefd_lang_component.specs.Tree.{Text}
-use Rattle.timefd_lang_fault.specs.declared.slot.Slot.{Slot}
-use Rattle.timefd_lang_fault.specs.declared.slot.Slot.TheVariants as slots
+use Rattle.timefd_lang_fault.specs.declared.rule.Slot.{Slot}
+use Rattle.timefd_lang_fault.specs.declared.rule.Slot.TheVariants as slots
 use Rattle.timefd_language.specs.Slots.{words_at}
 use Rattle.timefd_language.specs.Bytes.{is_version_three}
 use Rattle.timefd_lint_lsp.specs.declared.editor.offered.Begun.{Begun}

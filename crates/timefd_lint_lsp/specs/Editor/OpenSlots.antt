@@ -1,8 +1,8 @@
 -- What a word is at the end of a text.
 use Rattle.std.specs.Prelude.{◌≡◌, Bool, true, false, Option, Some, None, codes}
 use Rattle.timefd_lang_component.specs.Tree.{Text}
-use Rattle.timefd_lang_fault.specs.declared.slot.Slot.{Slot}
-use Rattle.timefd_lang_fault.specs.declared.slot.Slot.TheVariants as slots
+use Rattle.timefd_lang_fault.specs.declared.rule.Slot.{Slot}
+use Rattle.timefd_lang_fault.specs.declared.rule.Slot.TheVariants as slots
 use Rattle.timefd_language.specs.Slots.{IsSlotAfter}
 use Rattle.timefd_language.specs.Bytes.{is_version_three}
 use Rattle.timefd_language.specs.declared.description_version.DescriptionVersion.{DescriptionVersion}

@@ -1,7 +1,7 @@
 //! The pieces of a text that precede the construct at fault.
 
 ghost use Rattle.std.specs.Prelude.{◌≡◌, ◌++◌, MatchOption};
-ghost use Rattle.timefd_language.specs.declared.language.Language as spec_language;
+ghost use Rattle.timefd_language.specs.declared.description_version.Language as spec_language;
 ghost use Rattle.timefd_lint_lsp.specs.Editor.GoodFronts.{BeginsNoPiece, IsGoodFront};
 ghost use Rattle.timefd_parse.specs.FirstPiece.{EndsWith, IsAfterFirst};
 

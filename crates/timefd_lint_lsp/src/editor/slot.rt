@@ -2,7 +2,7 @@
 
 ghost use Rattle.std.specs.Prelude.{◌≡◌, IfSome, MatchOption};
 ghost use Rattle.timefd_language.specs.Bytes.{StopsBefore, ZeroOrMore, is_version_three, is_word_byte};
-ghost use Rattle.timefd_lang_fault.specs.declared.slot.Slot.{Slot};
+ghost use Rattle.timefd_lang_fault.specs.declared.rule.Slot.{Slot};
 ghost use Rattle.timefd_language.specs.Slots as spec;
 ghost use Rattle.timefd_language.specs.Slots.{IsSlotAt, IsSlotAfter};
 ghost use Rattle.timefd_lint_lsp.specs.Editor.SlotSearches.{is_inside, IsAfterAll, IsLastBracket, IsNamedHead, NamesHead};

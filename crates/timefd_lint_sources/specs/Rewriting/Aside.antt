@@ -10,7 +10,7 @@ use Rattle.timefd_language.specs.Bytes.{left, right, is_white, ZeroOrMore}
 use Rattle.timefd_language.specs.Grammar.{nesting_limit}
 use Rattle.timefd_language.specs.declared.description_version.DescriptionVersion.{DescriptionVersion}
 use Rattle.timefd_language.specs.declared.description_version.DescriptionVersion.TheVariants.{Two, Three}
-use Rattle.timefd_language.specs.declared.language.Language.TheVariants as languages
+use Rattle.timefd_language.specs.declared.description_version.Language.TheVariants as languages
 use Rattle.timefd_lint_rewrite.specs.Layouts.{IsConverted}
 use Rattle.timefd_lint_rewrite.specs.declared.layout.Layout.{Layout}
 use Rattle.timefd_lint_rewrite.specs.declared.layout.Layout.TheVariants.{Least, Normal, Fixed}

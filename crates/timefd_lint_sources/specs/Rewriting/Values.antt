@@ -8,8 +8,8 @@ use Rattle.timefd_lang_convert.specs.Conversions.{conversion_between}
 use Rattle.timefd_lang_dialect.specs.declared.dialect.Dialect as other
 use Rattle.timefd_language.specs.declared.description_version.DescriptionVersion.{DescriptionVersion}
 use Rattle.timefd_language.specs.declared.description_version.DescriptionVersion.TheVariants.{One, Two, Three}
-use Rattle.timefd_language.specs.declared.language.Language.{Language}
-use Rattle.timefd_language.specs.declared.language.Language.TheVariants.{Version}
+use Rattle.timefd_language.specs.declared.description_version.Language.{Language}
+use Rattle.timefd_language.specs.declared.description_version.Language.TheVariants.{Version}
 use Rattle.timefd_lint_rewrite.specs.LineChanges.{IsChanged, IsUnchangeable}
 use Rattle.timefd_lint_rewrite.specs.declared.layout.Layout.TheVariants as layouts
 use Rattle.timefd_lint_rewrite.specs.declared.line_change.LineChange.{LineChange}

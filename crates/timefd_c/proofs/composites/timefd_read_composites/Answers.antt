@@ -1,7 +1,7 @@
 use Rattle.std.proofs.Common.{◌≡◌, IsUtf8, false, true, subst, sym}
 use Rattle.timefd_lang_fault.specs.BorrowedFaults.{to_borrowed_fault, IsBorrowed, IsBorrowedOf, IsMemory, IsRefusal}
 use Rattle.timefd_language.specs.Grammar.{nesting_limit}
-use Rattle.timefd_language.specs.declared.language.Language.TheVariants.{Strftime}
+use Rattle.timefd_language.specs.declared.description_version.Language.TheVariants.{Strftime}
 use Rattle.timefd_parse.specs.Language.{FaultIn}
 use Rattle.timefd_c.specs.Composites.{ReadsComposites}
 use Rattle.timefd_c.proofs.CompositeLemmas.{composites_faulted, composites_reported}

@@ -1,5 +1,5 @@
 use Rattle.std.proofs.Common.{◌∙◌, Option, sym, subst}
-use Rattle.timefd_language.specs.declared.language.Language.{Language}
+use Rattle.timefd_language.specs.declared.description_version.Language.{Language}
 use Rattle.timefd_c.specs.Answers.{HasFault}
 use Rattle.timefd_c.proofs.diagnose.timefd_diagnose.Goals as goal
 

@@ -1,6 +1,6 @@
 use Rattle.std.proofs.Common.{◌≡◌, ◌∙◌, true, false, IsUtf8, string_bytes, sym, subst, arith}
 use Rattle.timefd_language.specs.declared.description_version.DescriptionVersion.TheVariants.{One}
-use Rattle.timefd_language.specs.declared.language.Language.TheVariants.{Version}
+use Rattle.timefd_language.specs.declared.description_version.Language.TheVariants.{Version}
 use Rattle.timefd_lift.specs.Answers.{IsRewritten, HasItemsOf}
 use Rattle.timefd_c.specs.Conversions.{Converts}
 use Rattle.timefd_c.specs.declared.answer.TheConstants.{ACCEPTED}

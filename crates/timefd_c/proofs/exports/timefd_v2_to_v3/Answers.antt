@@ -1,6 +1,6 @@
 use Rattle.std.proofs.Common.{◌≡◌, ◌∙◌, true, false, IsUtf8, string_bytes, sym, subst}
 use Rattle.timefd_language.specs.declared.description_version.DescriptionVersion.TheVariants.{Two}
-use Rattle.timefd_language.specs.declared.language.Language.TheVariants.{Version}
+use Rattle.timefd_language.specs.declared.description_version.Language.TheVariants.{Version}
 use Rattle.timefd_lift.specs.Modernized.{IsWrittenOf, KeepsItemsOf}
 use Rattle.timefd_c.specs.Conversions.{ConvertsBy}
 use Rattle.timefd_c.specs.declared.answer.TheConstants.{ACCEPTED}

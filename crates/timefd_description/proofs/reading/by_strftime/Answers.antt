@@ -5,7 +5,7 @@ use Rattle.timefd_parse.specs.Language.{FaultIn}
 use Rattle.timefd_date_moment.specs.Fields.Reads.{fields_of}
 use Rattle.timefd_description.proofs.ReadTextLemmas.{fault_kept, fault_reported, memory_reported, no_fault, strftime_read}
 use Rattle.timefd_description.specs.ReadAnswers.{fields_in}
-use Rattle.timefd_language.specs.declared.language.Language.TheVariants as languages
+use Rattle.timefd_language.specs.declared.description_version.Language.TheVariants as languages
 use Rattle.timefd_description.proofs.reading.by_strftime.Goals as goal
 
 pub returns-in-Ok-clause-spelled : goal.returns-in-Ok-clause-spelled

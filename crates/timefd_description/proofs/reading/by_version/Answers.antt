@@ -3,7 +3,7 @@ use Rattle.timefd_lang_component.specs.Tree.{compound, trees}
 use Rattle.timefd_lang_node_list.specs.Item.Meaning.{item_trees}
 use Rattle.timefd_items.specs.Description.{description_tree}
 use Rattle.timefd_parse.specs.Answers.{IsOutput}
-use Rattle.timefd_language.specs.declared.language.Language.TheVariants as languages
+use Rattle.timefd_language.specs.declared.description_version.Language.TheVariants as languages
 use Rattle.timefd_parse.specs.Language.{FaultIn}
 use Rattle.timefd_date_moment.specs.Fields.Reads.{fields_of}
 use Rattle.timefd_description.proofs.ReadTextLemmas.{description_read, fault_kept, fault_reported, items_read, memory_reported, no_fault}

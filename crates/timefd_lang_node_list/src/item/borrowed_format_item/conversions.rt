@@ -4,8 +4,7 @@ ghost use Rattle.std.specs.Prelude.{◌≡◌, ◌↔◌, IsTrue, IfOk, IfErr, S
 ghost use Rattle.timefd_lang_node_list.specs.Item.Meaning.{item_tree, item_trees};
 ghost use Rattle.timefd_lang_component.specs.Tree.{component_in, compound, trees, trees_in};
 
-use super::{BorrowedFormatItem, same_all};
-use crate::item::different_variant::DifferentVariant;
+use super::{BorrowedFormatItem, DifferentVariant, same_all};
 use timefd_lang_component::Component;
 
 impl From<Component> for BorrowedFormatItem<'_> {

@@ -1,5 +1,5 @@
 use Rattle.timefd_language.specs.declared.description_version.DescriptionVersion.TheVariants.{One}
-use Rattle.timefd_language.specs.declared.language.Language.TheVariants.{Version}
+use Rattle.timefd_language.specs.declared.description_version.Language.TheVariants.{Version}
 use Rattle.timefd_language.specs.Grammar.{nesting_limit}
 use Rattle.timefd_lang_fault.proofs.OwnedLemmas.{owned_fault, owned_memory}
 use Rattle.timefd_language.proofs.PlacedLemmas.{owned_placed, owned_spanned}

@@ -4,7 +4,7 @@ use Rattle.timefd_lang_fault.specs.Codes.{code_of}
 use Rattle.timefd_lang_fault.specs.Faults.{Fault}
 use Rattle.timefd_language.specs.Grammar.{nesting_limit}
 use Rattle.timefd_parse.specs.Language.{FaultIn}
-use Rattle.timefd_language.specs.declared.language.Language.TheVariants.{Version}
+use Rattle.timefd_language.specs.declared.description_version.Language.TheVariants.{Version}
 use Rattle.timefd_lint_sources.specs.Items.{is_of_item}
 use Rattle.timefd_lint_sources.proofs.OpeningLemmas.{borrowed_is, borrowed_of}
 use Rattle.timefd_lint_sources.proofs.opening.item_index.Goals as goal

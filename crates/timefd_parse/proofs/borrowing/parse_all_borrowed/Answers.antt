@@ -10,7 +10,7 @@ use Rattle.timefd_language.specs.Broken.{FaultOf}
 use Rattle.timefd_language.specs.Grammar.{Spells}
 use Rattle.timefd_parse.proofs.ParseLemmas.{items_output}
 use Rattle.timefd_parse.proofs.ReadLemmas.{not_three}
-use Rattle.timefd_language.specs.declared.language.Language.TheVariants.{Version}
+use Rattle.timefd_language.specs.declared.description_version.Language.TheVariants.{Version}
 use Rattle.timefd_language.specs.Spans.{HasSpan}
 use Rattle.timefd_parse.proofs.borrowing.parse_all_borrowed.Goals as goal
 

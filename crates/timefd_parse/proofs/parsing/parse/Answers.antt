@@ -1,4 +1,4 @@
-use Rattle.timefd_language.specs.declared.language.Language.TheVariants.{Version}
+use Rattle.timefd_language.specs.declared.description_version.Language.TheVariants.{Version}
 use Rattle.timefd_language.specs.declared.description_version.DescriptionVersion.TheVariants.{One}
 use Rattle.timefd_language.specs.Broken.{FaultOf}
 use Rattle.timefd_language.specs.Grammar.{nesting_limit}

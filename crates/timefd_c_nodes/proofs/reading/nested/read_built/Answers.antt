@@ -3,7 +3,7 @@ use Rattle.timefd_lang_component.specs.Tree.{pack}
 use Rattle.timefd_items.specs.Description.{description_tree}
 use Rattle.timefd_language.specs.declared.description_version.DescriptionVersion.TheVariants.{Three}
 use Rattle.timefd_parse.specs.Answers.{IsOutput}
-use Rattle.timefd_language.specs.declared.language.Language.TheVariants.{Version}
+use Rattle.timefd_language.specs.declared.description_version.Language.TheVariants.{Version}
 use Rattle.timefd_c_nodes.proofs.ReadingLemmas.ReportLemmas.{accepted, tree_report}
 use Rattle.timefd_c_nodes.proofs.reading.nested.read_built.Goals as goal
 

@@ -1,5 +1,5 @@
 use Rattle.std.proofs.Common.{◌∙◌, sym, ap, subst}
-use Rattle.timefd_language.specs.declared.language.Language.TheVariants.{Version}
+use Rattle.timefd_language.specs.declared.description_version.Language.TheVariants.{Version}
 use Rattle.timefd_parse.specs.Language.{FaultIn}
 use Rattle.timefd_c_nodes.specs.Reading.Reports.{IsRead}
 use Rattle.timefd_c_nodes.proofs.reading.reading.read_within.Goals as goal

@@ -1,4 +1,4 @@
-use Rattle.timefd_language.specs.declared.language.Language.TheVariants.{Strftime}
+use Rattle.timefd_language.specs.declared.description_version.Language.TheVariants.{Strftime}
 use Rattle.timefd_c_nodes.proofs.ReadingLemmas.CountedLemmas.{refuses}
 use Rattle.timefd_c_nodes.proofs.ReadingLemmas.PieceLemmas.{pieces_report}
 use Rattle.timefd_c_nodes.proofs.ReadingLemmas.ReportLemmas.{not_read, read_as}

@@ -1,4 +1,4 @@
-use Rattle.timefd_language.specs.declared.language.Language.TheVariants.{Version}
+use Rattle.timefd_language.specs.declared.description_version.Language.TheVariants.{Version}
 use Rattle.timefd_parse.proofs.ParseLemmas.{items_spelled}
 use Rattle.timefd_c_nodes.proofs.ReadingLemmas.CountedLemmas.{refuses_version}
 use Rattle.timefd_c_nodes.proofs.ReadingLemmas.ReportLemmas.{accepted, items_report, lax_report, not_read}

@@ -3,7 +3,7 @@ use Rattle.timefd_lang_component.specs.Reserved.{reserve_all}
 use Rattle.timefd_lang_component.specs.Tree.{trees}
 use Rattle.timefd_language.specs.declared.description_version.DescriptionVersion.TheVariants.{Three}
 use Rattle.timefd_lang_node_list.specs.Views.{walked_all}
-use Rattle.timefd_language.specs.declared.language.Language.TheVariants.{Version}
+use Rattle.timefd_language.specs.declared.description_version.Language.TheVariants.{Version}
 use Rattle.timefd_parse.proofs.BuildingLemmas.{list_within}
 use Rattle.timefd_parse.proofs.CountingLemmas.{pack_sum}
 use Rattle.timefd_parse.proofs.ParseLemmas.{items_spelled, no_fault_in, none_read}

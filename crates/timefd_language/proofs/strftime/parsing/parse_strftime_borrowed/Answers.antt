@@ -1,4 +1,4 @@
-use Rattle.timefd_language.specs.declared.language.Language.TheVariants.{Strftime}
+use Rattle.timefd_language.specs.declared.description_version.Language.TheVariants.{Strftime}
 use Rattle.timefd_lang_fault.proofs.OwnedLemmas.{owned_fault, owned_memory}
 use Rattle.timefd_language.proofs.PlacedLemmas.{owned_placed, owned_spanned}
 use Rattle.timefd_language.proofs.DirectiveLemmas.DirectiveLemmas.{owned_strftime}

@@ -1,6 +1,6 @@
 use Rattle.std.proofs.Common.{arith, ◌≡◌, ◌≢◌, ◌<◌, ap, length, eqb-true, false-eqb, sym, subst, Some, None, [], rules}
 use Rattle.std.specs.Prelude.{MatchOption, bytes_eq, false}
-use Rattle.timefd_lang_fault.specs.declared.slot.Slot.{Slot}
+use Rattle.timefd_lang_fault.specs.declared.rule.Slot.{Slot}
 use Rattle.timefd_language.specs.Slots.{IsSlotAt, colon_before}
 use Rattle.timefd_lint_lsp.proofs.EditorLemmas.SlotWordLemmas.{no_colon, no_key, unequal}
 use Rattle.timefd_language.specs.Bytes.{is_version_three}

@@ -1,5 +1,5 @@
 use Rattle.std.proofs.Common.{Some, None, ap, option_map, refl, sym, ◌∙◌}
-use Rattle.timefd_lang_fault.specs.declared.slot.Slot.TheVariants as slots
+use Rattle.timefd_lang_fault.specs.declared.rule.Slot.TheVariants as slots
 use Rattle.timefd_language.specs.Bytes.{is_version_three}
 use Rattle.timefd_language.specs.Lookup.{key_for}
 use Rattle.timefd_parse.proofs.SpanLemmas.{no_value}

@@ -1,5 +1,5 @@
 use Rattle.std.proofs.Common.{ap, inl, option_map, sym}
-use Rattle.timefd_lang_fault.specs.declared.slot.Slot.TheVariants as slots
+use Rattle.timefd_lang_fault.specs.declared.rule.Slot.TheVariants as slots
 use Rattle.timefd_parse.proofs.head.modifiers.key_rule.Goals as goal
 
 pub returns-in-Some-clause-wanted : goal.returns-in-Some-clause-wanted
