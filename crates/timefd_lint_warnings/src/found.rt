@@ -1,13 +1,13 @@
 //! The warnings of a text that a language accepts.
 
-ghost use Rattle.std.specs.Prelude.{◌≡◌, List, IfOk};
+ghost use Rattle.std.specs.Prelude.{◌≡◌, List, IfOk, IfSome};
 ghost use Rattle.timefd_lang_component.specs.Tree.{Tree};
-ghost use Rattle.timefd_language.specs.Grammar.{Spells, nesting_limit};
-ghost use Rattle.timefd_language.specs.Strftime.{SpellsStrftime};
+ghost use Rattle.timefd_language.specs.Grammar.{nesting_limit};
+ghost use Rattle.timefd_language.specs.declared.description_version.Language.TheVariants.{Version, Strftime};
 ghost use Rattle.timefd_parse.specs.Language.{SpellsIn};
 ghost use Rattle.timefd_lang_warnings.specs.declared.warned.LanguageStyle.TheVariants as styles;
 ghost use Rattle.timefd_lang_warnings.specs.Levels.{found};
-ghost use Rattle.timefd_lang_node_list.specs.Leaves.{leaves_in};
+ghost use Rattle.timefd_lint_warnings.specs.Found.{IsFoundIn};
 ghost use Rattle.timefd_lint_warnings.specs.Found as spec;
 
 use std::alloc::{AllocError, Global};
@@ -28,6 +28,24 @@ pub fn found_in(
     ensures { (list : List Tree) → SpellsIn language nesting_limit text.now list
         → IfOk result (λ reported. reported ≡ spec.found_in language levels list) }
 {
+    match found_at_once(alloc, language, text, levels) {
+        Some(found) => Ok(found),
+        None => Err(AllocError),
+    }
+}
+
+/// The levels of the warnings that a text has, if its language accepts it and there is memory for its
+/// items; every other warning is allowed. `None` says nothing: whoever wants to know why looks again.
+pub fn found_at_once(
+    alloc: Global,
+    language: Language,
+    text: &str,
+    levels: Levels,
+) -> Option<Levels>
+    ensures accepted { IfSome result (IsFoundIn language levels text.now) }
+    ensures spelled { (list : List Tree) → SpellsIn language nesting_limit text.now list
+        → IfSome result (λ reported. reported ≡ spec.found_in language levels list) }
+{
     match language {
         Language::Version(version) => found_in_version(alloc, version, text, levels),
         Language::Strftime => found_in_strftime(alloc, text, levels),
@@ -39,13 +57,14 @@ fn found_in_version(
     version: DescriptionVersion,
     text: &str,
     levels: Levels,
-) -> Result<Levels, AllocError>
-    ensures { (list : List Tree) → Spells version nesting_limit 0 text.now list
-        → IfOk result (λ reported. reported ≡ found levels styles.Brackets (leaves_in list)) }
+) -> Option<Levels>
+    ensures accepted { IfSome result (IsFoundIn (Version version) levels text.now) }
+    ensures spelled { (list : List Tree) → SpellsIn (Version version) nesting_limit text.now list
+        → IfSome result (λ reported. reported ≡ spec.found_in (Version version) levels list) }
 {
     match parse_all_borrowed(alloc, version, NESTING_LIMIT, text) {
-        Ok(output) => Ok(found_of(&output, levels)),
-        Err(_) => Err(AllocError),
+        Ok(output) => Some(found_of(&output, levels)),
+        Err(_) => None,
     }
 }
 
@@ -66,13 +85,14 @@ fn found_of(output: &BorrowedOutput<'_>, levels: Levels) -> Levels
     }
 }
 
-fn found_in_strftime(alloc: Global, text: &str, levels: Levels) -> Result<Levels, AllocError>
-    ensures { (list : List Tree) → SpellsStrftime text.now list
-        → IfOk result (λ reported. reported ≡ found levels styles.Percents (leaves_in list)) }
+fn found_in_strftime(alloc: Global, text: &str, levels: Levels) -> Option<Levels>
+    ensures accepted { IfSome result (IsFoundIn Strftime levels text.now) }
+    ensures spelled { (list : List Tree) → SpellsIn Strftime nesting_limit text.now list
+        → IfSome result (λ reported. reported ≡ spec.found_in Strftime levels list) }
 {
     let tables = StrftimeTables::new();
     match parse_strftime_all_borrowed(alloc, &tables, text) {
-        Ok(items) => Ok(levels.found(LanguageStyle::Percents, ReadDescription::Items(&items))),
-        Err(_) => Err(AllocError),
+        Ok(items) => Some(levels.found(LanguageStyle::Percents, ReadDescription::Items(&items))),
+        Err(_) => None,
     }
 }
