@@ -1,7 +1,7 @@
 -- What is wrong with the arguments, in a sentence.
 use Rattle.std.specs.Prelude.{◌≡◌, ◌++◌, codes, Option, Some, None}
 use Rattle.std.specs.List.{join_by}
-use Rattle.timefd_lang_component.specs.Tree.{Text}
+use Rattle.timefd_parse.specs.Tree.{Text}
 use Rattle.timefd_lint_diagnosis.specs.Nearest.{IsNearest}
 use Rattle.timefd_lint_drawing.specs.Forms as forms
 use Rattle.timefd_lint_drawing.specs.Shown.{safe}

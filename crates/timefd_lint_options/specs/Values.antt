@@ -1,10 +1,10 @@
 -- What the values of options name.
 use Rattle.std.specs.Prelude.{Option, Some, None, codes, bytes_eq, if◌then◌else◌}
-use Rattle.timefd_lang_component.specs.Tree.{Text}
-use Rattle.timefd_language.specs.declared.description_version.DescriptionVersion.{DescriptionVersion}
-use Rattle.timefd_language.specs.declared.description_version.DescriptionVersion.TheVariants.{One, Two, Three}
-use Rattle.timefd_language.specs.declared.description_version.Language.{Language}
-use Rattle.timefd_language.specs.declared.description_version.Language.TheVariants.{Version, Strftime}
+use Rattle.timefd_parse.specs.Tree.{Text}
+use Rattle.timefd_parse.specs.DescriptionVersion.{DescriptionVersion}
+use Rattle.timefd_parse.specs.DescriptionVersion.TheVariants.{One, Two, Three}
+use Rattle.timefd_parse.specs.LanguageType.{Language}
+use Rattle.timefd_parse.specs.LanguageType.TheVariants.{Version, Strftime}
 use Rattle.timefd_lang_dialect.specs.declared.dialect.Dialect.{Dialect}
 use Rattle.timefd_lang_dialect.specs.Dialects.{named}
 use Rattle.timefd_lint_options.specs.declared.settings.Color.{Color}

@@ -1,6 +1,6 @@
 -- A message on a word in a comment.
 use Rattle.std.specs.Prelude.{None, Some}
-use Rattle.timefd_lang_component.specs.Tree.{Text}
+use Rattle.timefd_parse.specs.Tree.{Text}
 use Rattle.timefd_lint_diagnosis.specs.declared.diagnostic.Span.{Span}
 use Rattle.timefd_lint_drawing.specs.declared.form.Format.{Format}
 use Rattle.timefd_lint_drawing.specs.declared.draw.Style.{Style}

@@ -1,6 +1,6 @@
 -- The note at a call that takes a description by name.
 use Rattle.std.specs.Prelude.{ℕ, Bool, true, false, codes, Option, Some, None, []}
-use Rattle.timefd_lang_component.specs.Tree.{Text}
+use Rattle.timefd_parse.specs.Tree.{Text}
 use Rattle.timefd_lint_drawing.specs.declared.draw.Style.{Style}
 use Rattle.timefd_lint_drawing.specs.declared.finding.FindingKind.TheVariants.{Aside}
 use Rattle.timefd_lint_drawing.specs.declared.form.Format.{Format}

@@ -1,9 +1,9 @@
 //! What is wrong with a text where it stands: one judgement for lines, literals, values of keys and editors.
 
 ghost use Rattle.std.specs.Prelude.{◌≡◌, ◌∷◌, ◌++◌, IfOk, IfSome, List, OnOk, Some, flat_map};
-ghost use Rattle.timefd_lang_component.specs.Tree.{Tree};
-ghost use Rattle.timefd_lang_fault.specs.Faults.{fault_of};
-ghost use Rattle.timefd_lang_fault.specs.Placed.{IsPlaced};
+ghost use Rattle.timefd_parse.specs.Tree.{Tree};
+ghost use Rattle.timefd_parse.specs.Faults.{fault_of};
+ghost use Rattle.timefd_parse.specs.Placed.{IsPlaced};
 ghost use Rattle.timefd_language.specs.Grammar.{nesting_limit};
 ghost use Rattle.timefd_lint_diagnosis.specs.declared.diagnostic.Diagnostic as diagnostics;
 ghost use Rattle.timefd_lint_diagnosis.specs.Further.{AreFurther, most_further, without};

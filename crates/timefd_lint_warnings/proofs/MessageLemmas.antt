@@ -1,6 +1,6 @@
 -- A warning as a finding: its words are the warning's.
 use Rattle.std.proofs.Common.{ℕ, ◌≡◌, None, Some}
-use Rattle.timefd_lang_component.specs.Tree.{Text}
+use Rattle.timefd_parse.specs.Tree.{Text}
 use Rattle.timefd_lang_warnings.specs.declared.levels.Level.{Level}
 use Rattle.timefd_lang_warnings.specs.declared.warning.Warning.{Warning}
 use Rattle.timefd_lang_warnings.specs.Codes.{name_of, sentence_of}

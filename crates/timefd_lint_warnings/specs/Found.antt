@@ -1,12 +1,12 @@
 -- The warnings of a text, by what it spells.
 use Rattle.std.specs.Prelude.{◌≡◌, List}
-use Rattle.timefd_lang_component.specs.Tree.{Text, Tree, trees}
+use Rattle.timefd_parse.specs.Tree.{Text, Tree, trees}
 use Rattle.timefd_lang_node_list.specs.Item.Meaning.{item_trees}
-use Rattle.timefd_items.specs.Description.{description_tree}
+use Rattle.timefd_parse.specs.Description.{description_tree}
 use Rattle.timefd_lang_node_list.specs.Leaves.{leaves, leaves_all, leaves_in}
-use Rattle.timefd_language.specs.Grammar.{nesting_limit}
-use Rattle.timefd_language.specs.declared.description_version.Language.{Language}
-use Rattle.timefd_language.specs.declared.description_version.Language.TheVariants.{Version, Strftime}
+use Rattle.timefd_parse.specs.Grammar.{nesting_limit}
+use Rattle.timefd_parse.specs.LanguageType.{Language}
+use Rattle.timefd_parse.specs.LanguageType.TheVariants.{Version, Strftime}
 use Rattle.timefd_parse.specs.Language.{SpellsIn}
 use Rattle.timefd_parse.specs.declared.parsing.BorrowedOutput.{BorrowedOutput}
 use Rattle.timefd_parse.specs.declared.parsing.BorrowedOutput.TheVariants.{Items, Description}

@@ -1,7 +1,7 @@
 -- What the linter reports about the warnings of a text.
 use Rattle.std.specs.Prelude.{ℕ, ◌+◌, ◌-◌, ◌^◌, Bool, true, false, List, [], ◌++◌, Option, None, Some, chars, flat_map, length, min}
 use Rattle.unicode_width.specs.Width.{str_width}
-use Rattle.timefd_lang_component.specs.Tree.{Text}
+use Rattle.timefd_parse.specs.Tree.{Text}
 use Rattle.timefd_lint_diagnosis.specs.declared.diagnostic.Span.{Span}
 use Rattle.timefd_lint_drawing.specs.declared.form.Format.{Format}
 use Rattle.timefd_lint_drawing.specs.declared.draw.Style.{Style}

@@ -1,9 +1,9 @@
 //! The warnings of a text that a language accepts.
 
 ghost use Rattle.std.specs.Prelude.{◌≡◌, List, IfOk, IfSome};
-ghost use Rattle.timefd_lang_component.specs.Tree.{Tree};
-ghost use Rattle.timefd_language.specs.Grammar.{nesting_limit};
-ghost use Rattle.timefd_language.specs.declared.description_version.Language.TheVariants.{Version, Strftime};
+ghost use Rattle.timefd_parse.specs.Tree.{Tree};
+ghost use Rattle.timefd_parse.specs.Grammar.{nesting_limit};
+ghost use Rattle.timefd_parse.specs.LanguageType.TheVariants.{Version, Strftime};
 ghost use Rattle.timefd_parse.specs.Language.{SpellsIn};
 ghost use Rattle.timefd_lang_warnings.specs.declared.warned.LanguageStyle.TheVariants as styles;
 ghost use Rattle.timefd_lang_warnings.specs.Levels.{found};

@@ -1,6 +1,6 @@
 -- All that is wrong in a document.
 use Rattle.std.specs.Prelude.{◌≡◌, ◌⊎◌, Bool, true, false, List, [], ◌++◌, Option, IsUtf8, ◌∷◌, flat_map, if◌then◌else◌}
-use Rattle.timefd_lang_component.specs.Tree.{Text}
+use Rattle.timefd_parse.specs.Tree.{Text}
 use Rattle.timefd_lint_diagnosis.specs.declared.diagnostic.Diagnostic.{Diagnostic}
 use Rattle.timefd_lint_drawing.specs.HelpText.{help_text}
 use Rattle.timefd_lint_drawing.specs.Findings.{with_help}

@@ -1,6 +1,6 @@
 -- What is wrong with a format of another language or library.
 use Rattle.std.specs.Prelude.{List}
-use Rattle.timefd_lang_component.specs.Tree.{Text}
+use Rattle.timefd_parse.specs.Tree.{Text}
 use Rattle.timefd_lang_dialect.specs.declared.error.RefusedPart.{RefusedPart}
 use Rattle.timefd_lang_dialect.specs.declared.trapping.Found.{Found}
 use Rattle.timefd_lang_dialect.specs.Reasons as reasons

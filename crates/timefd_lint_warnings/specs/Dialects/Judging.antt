@@ -1,6 +1,6 @@
 -- What the linter says of a format of another language.
 use Rattle.std.specs.Prelude.{ℕ, None, Some}
-use Rattle.timefd_lang_component.specs.Tree.{Text}
+use Rattle.timefd_parse.specs.Tree.{Text}
 use Rattle.timefd_lang_dialect.specs.declared.reason.Reason.{Reason}
 use Rattle.timefd_lang_dialect.specs.declared.trapping.Found.{Found}
 use Rattle.timefd_lang_dialect.specs.Reasons as reasons
