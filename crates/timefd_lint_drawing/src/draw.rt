@@ -168,7 +168,15 @@ fn fault_end(
     requires { IsCounted origin.line text.now from }
     ensures { IfOk result (λ end. end ≡ spec.fault_end format origin.entry text.now index) }
 {
-    end_if(alloc, format.shows_fault_end(), format, origin, text, from, index)
+    end_if(
+        alloc,
+        format.shows_fault_end(),
+        format,
+        origin,
+        text,
+        from,
+        index,
+    )
 }
 
 /// The position of what follows a part of a format of another language, if the form has it. An `Err` says that memory ran out.
@@ -183,7 +191,15 @@ pub fn part_end(
     requires { IsCounted origin.line text.now from }
     ensures { IfOk result (λ end. end ≡ spec.part_end format origin.entry text.now index) }
 {
-    end_if(alloc, format.shows_part_end(), format, origin, text, from, index)
+    end_if(
+        alloc,
+        format.shows_part_end(),
+        format,
+        origin,
+        text,
+        from,
+        index,
+    )
 }
 
 // The position of what follows a part, if it is shown.

@@ -26,7 +26,12 @@ pub fn human(
     ensures { IfOk result (λ drawing. string_bytes drawing
         ≡ spec.human is_colored (located_of location.entry) (said_of finding.entry)) }
 {
-    drawing(alloc, is_painted(finding.kind, is_colored), location, finding)
+    drawing(
+        alloc,
+        is_painted(finding.kind, is_colored),
+        location,
+        finding,
+    )
 }
 
 fn drawing(
