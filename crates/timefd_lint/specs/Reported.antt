@@ -259,18 +259,14 @@ abbrev pub one_if : Bool → ℕ
 one_if true = 1
 one_if false = 0
 
+-- the amounts of all of them together
+abbrev pub total : (Reported → ℕ) → List Reported → ℕ
+total amount [] = 0
+total amount (t ∷ reported) = amount t + total amount reported
+
 -- how many pass the test
 abbrev pub count : (Reported → Bool) → List Reported → ℕ
-count test [] = 0
-count test (t ∷ reported) = one_if (test t) + count test reported
-
-abbrev pub warnings_of : List Reported → ℕ
-warnings_of [] = 0
-warnings_of (t ∷ reported) = warnings_in t.end + warnings_of reported
-
-abbrev pub allowed_of : List Reported → ℕ
-allowed_of [] = 0
-allowed_of (t ∷ reported) = allowed_in t.end + allowed_of reported
+count test reported = total (λ t. one_if (test t)) reported
 
 -- the tally of one text
 abbrev pub tally_of_one : TextEnd → LintTally
@@ -292,11 +288,11 @@ abbrev pub tally_of : List Reported → LintTally
 tally_of reported = record {
   descriptions = u64_saturate (count (λ t. is_description t.end) reported);
   refused = u64_saturate (count (λ t. is_refused t.end) reported);
-  warnings = u64_saturate (warnings_of reported);
+  warnings = u64_saturate (total (λ t. warnings_in t.end) reported);
   unread_calls = u64_saturate (count (λ t. is_unread_call t.end) reported);
   unread_values = u64_saturate (count (λ t. is_unread_value t.end) reported);
   wrong_comments = u64_saturate (count (λ t. is_wrong_comment t.end) reported);
-  allowed = u64_saturate (allowed_of reported);
+  allowed = u64_saturate (total (λ t. allowed_in t.end) reported);
   not_text = list_any (λ t. is_not_text t.end) reported;
   failed = list_any (λ t. is_failed t.end) reported;
   is_left = false;
