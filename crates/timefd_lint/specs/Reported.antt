@@ -20,9 +20,9 @@ use Rattle.timefd_lang_warnings.specs.declared.levels.Level.TheVariants.{Warned,
 use Rattle.timefd_lang_warnings.specs.declared.levels.Levels.{Levels}
 use Rattle.timefd_lang_warnings.specs.Levels.{count as warning_count}
 use Rattle.timefd_lint_sources.specs.declared.reported.Reporting.{Reporting}
-use Rattle.timefd_lint_sources.specs.declared.verdict.TextJudgement.{TextJudgement}
-use Rattle.timefd_lint_sources.specs.declared.verdict.TextJudgement.TheVariants as verdicts
-use Rattle.timefd_lint_sources.specs.Verdicts.{levels_of}
+use Rattle.timefd_lint_sources.specs.declared.judgement.TextJudgement.{TextJudgement}
+use Rattle.timefd_lint_sources.specs.declared.judgement.TextJudgement.TheVariants as judgements
+use Rattle.timefd_lint_sources.specs.Judgements.{levels_of}
 use Rattle.timefd_lint_sources.specs.Whole.{IsTreeWithWarnings, no_text_note}
 use Rattle.timefd_lint_rewrite.specs.Lines.{AreLinesOf, IsNextLine, without_newline}
 use Rattle.timefd_lint.specs.Failures.{IsUnreadNote, note_of}
@@ -42,13 +42,13 @@ IsAcceptedDrawn reporting origin text language found message =
 
 -- The message on what is wrong with a text.
 abbrev pub IsDrawn : Reporting → Origin → Text → TextJudgement → Text → Type 0
-IsDrawn reporting origin text (verdicts.Accepted language found) message =
+IsDrawn reporting origin text (judgements.Accepted language found) message =
     IsAcceptedDrawn reporting origin text language found message
-IsDrawn reporting origin text (verdicts.Faulty faults) message =
+IsDrawn reporting origin text (judgements.Faulty faults) message =
     message ≡ faults_drawn reporting.style origin text faults.items
-IsDrawn reporting origin text (verdicts.Right traps) message =
+IsDrawn reporting origin text (judgements.Right traps) message =
     message ≡ flat_map (trap_drawn reporting.style origin text) traps.items
-IsDrawn reporting origin text (verdicts.Refused part) message =
+IsDrawn reporting origin text (judgements.Refused part) message =
     message ≡ refusal_drawn reporting.style origin text part.reason part.index
 
 -- The message on a file that fails is the note on why.
@@ -57,8 +57,8 @@ IsFailureNote style file message = (failure : Failure) × (message ≡ note_of s
 
 -- The message on a text with this end.
 abbrev pub IsMessageBy : LineLanguage → Reporting → Origin → Text → TextEnd → Text → Type 0
-IsMessageBy language reporting origin text end message = (verdict : TextJudgement)
-    × IsJudged language reporting text end verdict × IsDrawn reporting origin text verdict message
+IsMessageBy language reporting origin text end message = (judgement : TextJudgement)
+    × IsJudged language reporting text end judgement × IsDrawn reporting origin text judgement message
 
 -- The message on a text. A text that is passed over has none.
 abbrev pub IsMessageOn : LineLanguage → Reporting → Origin → Text → TextEnd → Text → Type 0
