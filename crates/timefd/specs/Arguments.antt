@@ -3,8 +3,8 @@ use Rattle.std.specs.Prelude.{ℕ, Bool, ◌&&◌, nat_le, List, [], ◌∷◌, 
 use Rattle.std.specs.Option.{option_and_then}
 use Rattle.std.specs.Str.{all_ascii_digits}
 use Rattle.std.specs.Str.Parse.{digits_value}
-use Rattle.timefd_lang_component.specs.Tree.{Text}
-use Rattle.timefd_language.specs.Grammar.{nesting_limit}
+use Rattle.timefd_parse.specs.Tree.{Text}
+use Rattle.timefd_parse.specs.Grammar.{nesting_limit}
 use Rattle.timefd.specs.declared.kind.Kind.{Kind}
 use Rattle.timefd.specs.declared.kind.Kind.TheVariants.{One, Two, Three, Strftime}
 

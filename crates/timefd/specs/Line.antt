@@ -1,12 +1,12 @@
 -- The line that answers a text.
 use Rattle.std.specs.Prelude.{ℕ, ◌≡◌, List, [], ◌∷◌, ◌++◌, codes, IsUtf8}
 use Rattle.std.specs.Fmt.{decimal}
-use Rattle.timefd_lang_component.specs.Tree.{Text, Tree}
-use Rattle.timefd_lang_fault.specs.Faults.{Fault}
-use Rattle.timefd_lang_fault.specs.Sentences.{sentence}
-use Rattle.timefd_language.specs.declared.description_version.DescriptionVersion.TheVariants.{One, Two, Three}
-use Rattle.timefd_language.specs.declared.description_version.Language.{Language}
-use Rattle.timefd_language.specs.declared.description_version.Language.TheVariants.{Version, Strftime}
+use Rattle.timefd_parse.specs.Tree.{Text, Tree}
+use Rattle.timefd_parse.specs.Faults.{Fault}
+use Rattle.timefd_parse.specs.Sentences.{sentence}
+use Rattle.timefd_parse.specs.DescriptionVersion.TheVariants.{One, Two, Three}
+use Rattle.timefd_parse.specs.LanguageType.{Language}
+use Rattle.timefd_parse.specs.LanguageType.TheVariants.{Version, Strftime}
 use Rattle.timefd_parse.specs.Language.{SpellsIn, FaultIn, amount}
 use Rattle.timefd.specs.declared.kind.Kind.{Kind}
 use Rattle.timefd.specs.Kinds.{language_of}

@@ -1,6 +1,6 @@
 -- What the program does with its arguments.
 use Rattle.std.specs.Prelude.{ℕ, ◌≡◌, List, [], ◌∷◌, Option, Some, None}
-use Rattle.timefd_lang_component.specs.Tree.{Text}
+use Rattle.timefd_parse.specs.Tree.{Text}
 use Rattle.timefd.specs.declared.kind.Kind.{Kind}
 use Rattle.timefd.specs.Arguments.{arguments}
 

@@ -1,6 +1,6 @@
 -- Which reply is right for a text.
 use Rattle.std.specs.Prelude.{ℕ, string_bytes}
-use Rattle.timefd_lang_component.specs.Tree.{Text}
+use Rattle.timefd_parse.specs.Tree.{Text}
 use Rattle.timefd.specs.declared.end.RunEnd.{RunEnd}
 use Rattle.timefd.specs.declared.kind.Kind.{Kind}
 use Rattle.timefd.specs.declared.reply.Reply.{Reply}

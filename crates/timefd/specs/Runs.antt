@@ -2,7 +2,7 @@
 use Rattle.std.specs.Prelude.{Option, ⊤}
 use Rattle.std.specs.Io.KnownBytes.{Appends}
 use Rattle.timefd_bin_streams.specs.Transfers.{ReadsAll}
-use Rattle.timefd_lang_component.specs.Tree.{Text}
+use Rattle.timefd_parse.specs.Tree.{Text}
 use Rattle.timefd.specs.declared.end.RunEnd.{RunEnd}
 use Rattle.timefd.specs.declared.end.RunEnd.TheVariants.{Accepted, Refused, Memory, ReadFailed, WriteFailed, NotUtf8}
 

@@ -1,7 +1,7 @@
 //! The languages that the program reads, and the arguments that name them.
 
 ghost use Rattle.std.specs.Prelude.{◌≡◌, ◌≤◌, IfSome, map, string_bytes};
-ghost use Rattle.timefd_language.specs.Grammar.{nesting_limit};
+ghost use Rattle.timefd_parse.specs.Grammar.{nesting_limit};
 ghost use Rattle.timefd.specs.Arguments as spec;
 ghost use Rattle.timefd.specs.Kinds.{language_of};
 

@@ -1,8 +1,8 @@
 //! The reply to a text.
 
 ghost use Rattle.std.specs.Prelude.{◌≡◌, ◌≤◌, IfOk, string_bytes};
-ghost use Rattle.timefd_lang_fault.specs.Faults.{fault_of};
-ghost use Rattle.timefd_language.specs.Grammar.{nesting_limit};
+ghost use Rattle.timefd_parse.specs.Faults.{fault_of};
+ghost use Rattle.timefd_parse.specs.Grammar.{nesting_limit};
 ghost use Rattle.timefd.specs.Replies.{IsReply, line_of, end_of};
 ghost use Rattle.timefd.specs.Line as spec;
 

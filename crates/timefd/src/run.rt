@@ -1,7 +1,7 @@
 //! A whole run: from the bytes of a reader to a line in a writer.
 
 ghost use Rattle.std.specs.Prelude.{◌≡◌, ◌≤◌, IsUtf8, IsTrue, IsFalse};
-ghost use Rattle.timefd_language.specs.Grammar.{nesting_limit};
+ghost use Rattle.timefd_parse.specs.Grammar.{nesting_limit};
 ghost use Rattle.timefd.specs.Line.{IsOkLine, IsFaultLine};
 ghost use Rattle.timefd.specs.Runs.{Answers, EndsAt, IsAnswer, IsOfText, IsSilent};
 

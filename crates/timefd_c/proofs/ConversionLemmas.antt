@@ -1,13 +1,13 @@
 -- The answer about a conversion that was made, about a text with a fault, and if memory ran out.
 use Rattle.std.proofs.Common.{ℕ, ◌≡◌, ◌≤◌, ◌<◌, ◌++◌, [], Some, length, drop, IsUtf8, refl, ap, sym, subst, ◌∙◌, arith}
 use Rattle.timefd_lang_component.specs.Tree.{Text}
-use Rattle.timefd_lang_fault.specs.Faults.{Fault}
+use Rattle.timefd_parse.specs.Faults.{Fault}
 use Rattle.timefd_language.specs.Grammar.{nesting_limit}
 use Rattle.timefd_language.specs.declared.description_version.Language.{Language}
 use Rattle.timefd_parse.specs.Language.{FaultIn}
-use Rattle.timefd_lang_fault.specs.declared.borrowed_parse_error.BorrowedParseError.{BorrowedParseError}
-use Rattle.timefd_lang_fault.specs.declared.borrowed_parse_error.BorrowedParseError.TheVariants as errors
-use Rattle.timefd_lang_fault.specs.BorrowedFaults.{to_borrowed_fault, IsBorrowed, IsBorrowedOf, IsMemory}
+use Rattle.timefd_parse.specs.BorrowedParseError.{BorrowedParseError}
+use Rattle.timefd_parse.specs.BorrowedParseError.TheVariants as errors
+use Rattle.timefd_parse.specs.BorrowedFaults.{to_borrowed_fault, IsBorrowed, IsBorrowedOf, IsMemory}
 use Rattle.timefd_lang_convert.specs.declared.conversion.Conversion.{Conversion}
 use Rattle.timefd_c.specs.Answers.{IsAnswer, error_answer, plain}
 use Rattle.timefd_c.specs.Conversions.{ConvertsBy, FitsRoom, FitsTwice, IsConverted, IsReportedOf}

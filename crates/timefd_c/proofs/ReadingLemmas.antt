@@ -6,7 +6,7 @@ use Rattle.timefd_language.proofs.ModernPieces.{pack_modern, modernity_law, strf
 use Rattle.timefd_c_nodes.specs.Decoding.{read_nodes}
 use Rattle.timefd_c_nodes.specs.Encoding.{nodes_from, literals_of, own_text}
 use Rattle.timefd_c_nodes.proofs.DecodeLemmas.{trees_back, tree_back}
-use Rattle.timefd_lang_fault.specs.Faults.{Fault}
+use Rattle.timefd_parse.specs.Faults.{Fault}
 use Rattle.timefd_language.specs.declared.description_version.Language.{Language}
 use Rattle.timefd_parse.specs.Language.{SpellsIn, FaultIn}
 use Rattle.timefd_c_nodes.specs.declared.node.RawNode.{RawNode}

@@ -1,9 +1,9 @@
 -- The answer says what the verdict says.
 use Rattle.std.proofs.Common.{ℕ, ◌≡◌, ◌≢◌, List, [], Option, Some, None, IsFalse, IsSome, IsUtf8, refl, subst, arith}
-use Rattle.timefd_lang_fault.specs.Faults.{Fault}
-use Rattle.timefd_lang_fault.specs.BorrowedFaults.{HasShortWords, to_borrowed_fault}
-use Rattle.timefd_lang_fault.specs.declared.borrowed_fault.BorrowedFault.{BorrowedFault}
-use Rattle.timefd_lang_fault.specs.RuleKinds.{rule_kind}
+use Rattle.timefd_parse.specs.Faults.{Fault}
+use Rattle.timefd_parse.specs.BorrowedFaults.{HasShortWords, to_borrowed_fault}
+use Rattle.timefd_parse.specs.BorrowedFault.{BorrowedFault}
+use Rattle.timefd_parse.specs.RuleKinds.{rule_kind}
 use Rattle.timefd_language.specs.Grammar.{nesting_limit}
 use Rattle.timefd_parse.proofs.AmountLemmas.{short_in}
 use Rattle.timefd_lang_component.specs.Tree.{Text, Tree}

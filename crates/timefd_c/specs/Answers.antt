@@ -2,12 +2,12 @@
 use Rattle.std.specs.Prelude.{ℕ, ◌≡◌, ◌≢◌, ◌≤◌, ◌↔◌, [], List, Option, Some, None, IsFalse, IsSome, IsUtf8}
 use Rattle.std.specs.Str.{IsCharBoundary}
 use Rattle.timefd_lang_component.specs.Tree.{Text, Tree}
-use Rattle.timefd_lang_fault.specs.Faults.{Fault}
-use Rattle.timefd_lang_fault.specs.declared.borrowed_parse_error.BorrowedParseError.{BorrowedParseError}
-use Rattle.timefd_lang_fault.specs.declared.borrowed_parse_error.BorrowedParseError.TheVariants as errors
+use Rattle.timefd_parse.specs.Faults.{Fault}
+use Rattle.timefd_parse.specs.BorrowedParseError.{BorrowedParseError}
+use Rattle.timefd_parse.specs.BorrowedParseError.TheVariants as errors
 use Rattle.timefd_language.specs.declared.description_version.Language.{Language}
 use Rattle.timefd_parse.specs.Language.{takes_memory}
-use Rattle.timefd_lang_fault.specs.Sentences.{sentence}
+use Rattle.timefd_parse.specs.Sentences.{sentence}
 use Rattle.timefd_c.specs.declared.answer.TheConstants.{ACCEPTED, REFUSED, NOT_UTF8, NO_MEMORY, UNKNOWN_KIND}
 use Rattle.timefd_c.specs.declared.answer.TextAnswer.{TextAnswer}
 use Rattle.timefd_c.specs.declared.verdict.TextVerdict.{TextVerdict}

@@ -7,7 +7,7 @@ use Rattle.timefd_c.specs.Answers.{DescribesWithin, HasFaultWithin}
 use Rattle.timefd_c.specs.Moments.{AreNumbers, IsMoment, range_fault, unknown}
 use Rattle.timefd_c_nodes.specs.Encoding.{component_node}
 use Rattle.timefd_lang_component.specs.Tree.{Text, Tree}
-use Rattle.timefd_lang_fault.specs.Faults.{Fault}
+use Rattle.timefd_parse.specs.Faults.{Fault}
 use Rattle.timefd_date_moment.specs.declared.moment.Moment.{Moment}
 use Rattle.timefd_language.specs.declared.description_version.Language.{Language}
 use Rattle.timefd_date_moment.specs.declared.fields.fault.ReadError.{ReadError}

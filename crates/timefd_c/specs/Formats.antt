@@ -8,7 +8,7 @@ use Rattle.timefd_c.specs.Answers.{DescribesWithin, HasFaultWithin}
 use Rattle.timefd_c.specs.Moments.{IsMoment, range_fault}
 use Rattle.timefd_c_nodes.specs.Encoding.{component_node}
 use Rattle.timefd_lang_component.specs.Tree.{Text, Tree, trees}
-use Rattle.timefd_lang_fault.specs.Faults.{Fault}
+use Rattle.timefd_parse.specs.Faults.{Fault}
 use Rattle.timefd_date_format.specs.declared.field.Lack.{Lack}
 use Rattle.timefd_date_format.specs.declared.field.Lack.TheVariants as lacks
 use Rattle.timefd_date_format.specs.declared.field.Unshown.{Unshown}

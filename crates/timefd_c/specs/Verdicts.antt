@@ -1,8 +1,8 @@
 -- What a verdict says about bytes.
 use Rattle.std.specs.Prelude.{ℕ, ◌≡◌, Option, None, List, IsSome, IsUtf8, ⊤}
 use Rattle.timefd_lang_component.specs.Tree.{Text, Tree}
-use Rattle.timefd_lang_fault.specs.Faults.{Fault}
-use Rattle.timefd_lang_fault.specs.BorrowedFaults.{to_borrowed_fault}
+use Rattle.timefd_parse.specs.Faults.{Fault}
+use Rattle.timefd_parse.specs.BorrowedFaults.{to_borrowed_fault}
 use Rattle.timefd_language.specs.declared.description_version.Language.{Language}
 use Rattle.timefd_c.specs.declared.verdict.TextVerdict.{TextVerdict}
 use Rattle.timefd_c.specs.declared.verdict.TextVerdict.TheVariants.{Accepted, Refused, NotUtf8, NoMemory, UnknownKind}

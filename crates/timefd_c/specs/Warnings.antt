@@ -5,7 +5,7 @@ use Rattle.timefd_c.specs.declared.warning_fields.WarningFields.{WarningFields}
 use Rattle.timefd_c.specs.declared.warning_fields.WarningsAnswer.{WarningsAnswer}
 use Rattle.timefd_c.specs.Answers.{Describes, HasFault}
 use Rattle.timefd_lang_component.specs.Tree.{Text, Tree}
-use Rattle.timefd_lang_fault.specs.Faults.{Fault}
+use Rattle.timefd_parse.specs.Faults.{Fault}
 use Rattle.timefd_lint_warnings.specs.Found.{style_of}
 use Rattle.timefd_lang_node_list.specs.Leaves.{leaves_in}
 use Rattle.timefd_language.specs.declared.description_version.Language.{Language}

@@ -2,7 +2,7 @@
 
 ghost use Rattle.std.specs.Prelude.{◌≡◌, ◌≢◌, ◌<◌, ◌≤◌, ◌++◌, ℕ, Some, length, take, drop};
 ghost use Rattle.std.specs.Str.{IsCharBoundary};
-ghost use Rattle.timefd_lang_fault.specs.Faults.{Fault};
+ghost use Rattle.timefd_parse.specs.Faults.{Fault};
 ghost use Rattle.timefd_language.specs.declared.description_version.Language.{Language};
 ghost use Rattle.timefd_c.specs.Answers.{HasFault, IfRefused, Judges};
 ghost use Rattle.timefd_c.specs.Diagnoses.{IsDiagnosed, no_fault};

@@ -1,8 +1,8 @@
 //! The answer to C with all that there is to say of a fault.
 
 ghost use Rattle.std.specs.Prelude.{◌≡◌, option_map};
-ghost use Rattle.timefd_lang_fault.specs.BorrowedFaults.{to_borrowed_fault};
-ghost use Rattle.timefd_lang_fault.specs.Placed.{IsPlaced};
+ghost use Rattle.timefd_parse.specs.BorrowedFaults.{to_borrowed_fault};
+ghost use Rattle.timefd_parse.specs.Placed.{IsPlaced};
 ghost use Rattle.timefd_language.specs.Spans.{IsSpanned};
 ghost use Rattle.timefd_c.specs.Diagnoses as spec;
 ghost use Rattle.timefd_c.specs.Diagnoses.{IsDiagnosed, IsWordReported, no_fault};

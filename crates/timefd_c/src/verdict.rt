@@ -2,7 +2,7 @@
 
 ghost use Rattle.std.specs.Prelude.{◌≡◌, ◌≢◌, [], List, Some, None, IsFalse, IsSome, IsUtf8};
 ghost use Rattle.timefd_lang_component.specs.Tree.{Tree};
-ghost use Rattle.timefd_lang_fault.specs.Faults.{Fault};
+ghost use Rattle.timefd_parse.specs.Faults.{Fault};
 ghost use Rattle.timefd_parse.specs.Language.{takes_memory};
 ghost use Rattle.timefd_c.specs.Answers.{answer_of};
 ghost use Rattle.timefd_c.specs.Languages.{SpellsIn, FaultIn, amount};

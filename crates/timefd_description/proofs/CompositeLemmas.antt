@@ -4,7 +4,7 @@ use Rattle.std.proofs.lemmas.Bool.{and_parts}
 use Rattle.std.proofs.lemmas.List.{length-map}
 use Rattle.std.proofs.lemmas.Result.{on_ok_weaker}
 use Rattle.std.specs.List.{list_all}
-use Rattle.timefd_lang_component.specs.Tree.{Tree, compound, pack, trees}
+use Rattle.timefd_parse.specs.Tree.{Tree, compound, pack, trees}
 use Rattle.timefd_description.specs.Modern.{is_leaf, modern_list, modern_tree}
 use Rattle.timefd_lang_node_list.specs.Item.Meaning.{item_tree, item_trees}
 use Rattle.timefd_lang_node_list.specs.declared.item.borrowed_format_item.BorrowedFormatItem.{BorrowedFormatItem}

@@ -1,7 +1,7 @@
 -- Trees in their modern form.
 use Rattle.std.proofs.Common.{◌≡◌, ◌∙◌, Bool, List, [], ◌∷◌, refl, sym, ap}
-use Rattle.timefd_lang_component.specs.Modern.{IsModern, AreModern}
-use Rattle.timefd_lang_component.specs.Tree.{Tree, component, literal, compound, optional, first, Trees, no_trees, more_trees, trees}
+use Rattle.timefd_parse.specs.Modern.{IsModern, AreModern}
+use Rattle.timefd_parse.specs.Tree.{Tree, component, literal, compound, optional, first, Trees, no_trees, more_trees, trees}
 use Rattle.timefd_description.specs.Modern.{modern_list, modern_tree, modern_trees}
 use Rattle.timefd_parse.specs.Pieces.{IsLeaf, IsLeafTree, IsPiece}
 use Rattle.timefd_parse.specs.declared.piece.Piece.{Piece}

@@ -4,7 +4,7 @@ use Rattle.timefd_lang_fault.specs.declared.borrowed_parse_error.BorrowedParseEr
 use Rattle.timefd_lang_fault.specs.declared.borrowed_parse_error.BorrowedParseError.TheVariants.{Memory}
 use Rattle.std.specs.declared.alloc.AllocError.{AllocError}
 use Rattle.timefd_lang_fault.specs.BorrowedFaults.{IsBorrowed, IsBorrowedOf, IsMemory}
-use Rattle.timefd_lang_component.specs.Tree.{Text, Tree}
+use Rattle.timefd_parse.specs.Tree.{Text, Tree}
 use Rattle.timefd_lang_fault.specs.Faults.{Fault}
 use Rattle.timefd_items.specs.declared.format_description_v3.FormatDescriptionV3.{FormatDescriptionV3}
 use Rattle.timefd_language.specs.Strftime.{SpellsStrftime, no_directives}

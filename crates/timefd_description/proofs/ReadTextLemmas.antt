@@ -4,7 +4,7 @@ use Rattle.std.specs.declared.alloc.Global.{Global}
 use Rattle.std.specs.declared.vec.Vec.{Vec}
 use Rattle.std.specs.Prelude.{length}
 use Rattle.std.specs.Result.{IfErr}
-use Rattle.timefd_lang_component.specs.Tree.{Text, Tree, compound, trees, pack}
+use Rattle.timefd_parse.specs.Tree.{Text, Tree, compound, trees, pack}
 use Rattle.timefd_lang_fault.specs.declared.borrowed_parse_error.BorrowedParseError.{BorrowedParseError}
 use Rattle.timefd_lang_fault.specs.declared.borrowed_parse_error.BorrowedParseError.TheVariants as parses
 use Rattle.timefd_lang_fault.specs.BorrowedFaults as borrowed

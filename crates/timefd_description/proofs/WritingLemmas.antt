@@ -2,8 +2,8 @@
 use Rattle.std.proofs.Common.{ℕ, ◌≡◌, ◌∙◌, ◌+◌, ◌-◌, ◌<◌, ◌≤◌, IfErr, IfOk, List, [], ◌∷◌, ◌++◌, drop, length, map, set, take, Result, Ok, Err, sym, ap, subst, arith, append_assoc, append-nil, length-drop, length-set}
 use Rattle.std.specs.Bool.{⊤}
 use Rattle.std.proofs.lemmas.List.{drop-set, drop_all, take_all}
-use Rattle.timefd_lang_component.specs.Reserved.{reserve}
-use Rattle.timefd_lang_component.specs.Tree.{Text, Tree, trees}
+use Rattle.timefd_parse.specs.Reserved.{reserve}
+use Rattle.timefd_parse.specs.Tree.{Text, Tree, trees}
 use Rattle.timefd_date_format.specs.declared.field.Unshown.{Unshown}
 use Rattle.timefd_date_format.specs.declared.write.FormatError.{FormatError}
 use Rattle.timefd_date_format.specs.declared.write.FormatError.TheVariants as fails

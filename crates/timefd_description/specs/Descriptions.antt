@@ -2,7 +2,7 @@
 use Rattle.std.specs.Prelude.{◌≡◌, List}
 use Rattle.timefd_description.specs.declared.description.Description.{Description}
 use Rattle.timefd_items.specs.Description.{description_tree}
-use Rattle.timefd_lang_component.specs.Tree.{Tree, pack}
+use Rattle.timefd_parse.specs.Tree.{Tree, pack}
 
 abbrev pub tree : Description → Tree
 tree d = description_tree d.nodes

@@ -3,7 +3,7 @@ use Rattle.std.specs.Prelude.{ℕ, ◌≡◌, Result, Ok, Err, ⊤}
 use Rattle.std.specs.declared.alloc.Global.{Global}
 use Rattle.std.specs.declared.vec.Vec.{Vec}
 use Rattle.timefd_lang_fault.specs.BorrowedFaults.{to_borrowed_fault}
-use Rattle.timefd_lang_component.specs.Tree.{Text}
+use Rattle.timefd_parse.specs.Tree.{Text}
 use Rattle.timefd_lang_fault.specs.Faults.{Fault}
 use Rattle.timefd_date_format.specs.declared.text.TextError.{TextError}
 use Rattle.timefd_date_format.specs.declared.text.TextError.TheVariants as texts

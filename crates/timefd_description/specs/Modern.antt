@@ -1,7 +1,7 @@
 -- Trees whose components are in their modern form, as nodes have them.
 use Rattle.std.specs.Prelude.{Bool, true, false, List, map}
-use Rattle.timefd_lang_component.specs.Modern.{modern}
-use Rattle.timefd_lang_component.specs.Tree.{Tree, component, literal, compound, optional, first, Trees, no_trees, more_trees}
+use Rattle.timefd_parse.specs.Modern.{modern}
+use Rattle.timefd_parse.specs.Tree.{Tree, component, literal, compound, optional, first, Trees, no_trees, more_trees}
 
 -- the same tree with each component in its modern form
 abbrev mutual

@@ -3,7 +3,7 @@ use Rattle.std.specs.Prelude.{◌≡◌, ℕ, [], List, IfOk, IsOk, MatchResult,
 use Rattle.std.specs.Result.{IfErr}
 use Rattle.timefd_lang_fault.specs.declared.borrowed_parse_error.BorrowedParseError.{BorrowedParseError}
 use Rattle.timefd_lang_fault.specs.BorrowedFaults.{IsBorrowed, IsBorrowedOf, IsMemory}
-use Rattle.timefd_lang_component.specs.Tree.{Text, Tree, pack}
+use Rattle.timefd_parse.specs.Tree.{Text, Tree, pack}
 use Rattle.timefd_lang_fault.specs.Faults.{Fault}
 use Rattle.timefd_items.specs.Description.{description_tree}
 use Rattle.timefd_items.specs.declared.format_description_v3.FormatDescriptionV3.{FormatDescriptionV3}

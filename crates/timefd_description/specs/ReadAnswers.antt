@@ -3,7 +3,7 @@ use Rattle.std.specs.Prelude.{◌≡◌, List, Result, Ok, Err, ⊤}
 use Rattle.timefd_lang_fault.specs.declared.borrowed_parse_error.BorrowedParseError.{BorrowedParseError}
 use Rattle.timefd_lang_fault.specs.declared.borrowed_parse_error.BorrowedParseError.TheVariants as parses
 use Rattle.timefd_lang_fault.specs.BorrowedFaults.{to_borrowed_fault}
-use Rattle.timefd_lang_component.specs.Tree.{Text, Tree, compound, trees}
+use Rattle.timefd_parse.specs.Tree.{Text, Tree, compound, trees}
 use Rattle.timefd_lang_fault.specs.Faults.{Fault}
 use Rattle.timefd_date_moment.specs.declared.moment.Moment.{Moment}
 use Rattle.timefd_date_moment.specs.declared.fields.fault.ReadError.{ReadError}

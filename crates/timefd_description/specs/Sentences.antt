@@ -1,7 +1,7 @@
 -- The sentence about a part of a text that doesn't read.
 use Rattle.std.specs.Prelude.{◌++◌, codes}
 use Rattle.std.specs.Fmt.{decimal}
-use Rattle.timefd_lang_component.specs.Tree.{Text}
+use Rattle.timefd_parse.specs.Tree.{Text}
 use Rattle.timefd_date_format.specs.Sentences.{name}
 use Rattle.timefd_date_moment.specs.declared.fields.fault.ReadError.{ReadError}
 use Rattle.timefd_date_moment.specs.declared.fields.fault.UnreadReason.{UnreadReason}

@@ -2,7 +2,7 @@
 
 ghost use Rattle.std.specs.Prelude.{◌≡◌, ◌∷◌, ◌++◌, [], IsTrue, OnOk};
 ghost use Rattle.std.specs.List.{list_all};
-ghost use Rattle.timefd_lang_component.specs.Tree.{compound, trees};
+ghost use Rattle.timefd_parse.specs.Tree.{compound, trees};
 ghost use Rattle.timefd_description.specs.Modern.{is_leaf, modern_list, modern_tree};
 ghost use Rattle.timefd_lang_node_list.specs.Item.Meaning.{item_tree, item_trees};
 ghost use Rattle.timefd_items.specs.Builder.{built};

@@ -1,7 +1,7 @@
 //! A description of any language.
 
 ghost use Rattle.timefd_description.specs.Descriptions.{tree};
-ghost use Rattle.timefd_lang_component.specs.Reserved.{reserve};
+ghost use Rattle.timefd_parse.specs.Reserved.{reserve};
 
 use crate::strftime::read_strftime;
 use crate::version::read_version;
@@ -25,7 +25,7 @@ impl<'a> Description<'a> {
     ghost use Rattle.std.specs.Prelude.{◌≡◌, ◌≤◌, [], IfOk, IsOk, List, MatchResult, length, map};
     ghost use Rattle.std.specs.Result.{IfErr};
     ghost use Rattle.timefd_lang_fault.specs.BorrowedFaults.{IsBorrowed, IsBorrowedOf, IsMemory};
-    ghost use Rattle.timefd_lang_component.specs.Tree.{Tree, trees};
+    ghost use Rattle.timefd_parse.specs.Tree.{Tree, trees};
     ghost use Rattle.timefd_description.specs.Descriptions.{IsOf};
     ghost use Rattle.timefd_lang_fault.specs.Faults as spec;
     ghost use Rattle.timefd_date_format.specs.Answers.{IsAnswer};

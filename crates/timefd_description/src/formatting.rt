@@ -1,7 +1,7 @@
 //! Writes a moment by the text of a description.
 
 ghost use Rattle.std.specs.Prelude.{◌≤◌, List};
-ghost use Rattle.timefd_lang_component.specs.Tree.{Tree, trees};
+ghost use Rattle.timefd_parse.specs.Tree.{Tree, trees};
 ghost use Rattle.timefd_lang_fault.specs.Faults as spec;
 ghost use Rattle.timefd_date_format.specs.Written.{written, written_all};
 ghost use Rattle.timefd_lang_node_list.specs.Item.Meaning.{item_trees};

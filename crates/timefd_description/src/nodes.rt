@@ -1,8 +1,8 @@
 //! Literals, components and lists, added one after another as nodes.
 
 ghost use Rattle.std.specs.Prelude.{◌≡◌, ◌∷◌, ◌++◌, ◌≤◌, [], IfOk, IsOk, OnOk, length};
-ghost use Rattle.timefd_lang_component.specs.Tree as spec;
-ghost use Rattle.timefd_lang_component.specs.Tree.{pack};
+ghost use Rattle.timefd_parse.specs.Tree as spec;
+ghost use Rattle.timefd_parse.specs.Tree.{pack};
 ghost use Rattle.timefd_description.specs.Modern.{modern_tree};
 ghost use Rattle.timefd_items.specs.Builder.{built};
 ghost use Rattle.timefd_items.specs.Description.{description_tree};

@@ -2,7 +2,7 @@
 
 ghost use Rattle.std.specs.Prelude.{◌≡◌, ◌≤◌, List};
 ghost use Rattle.std.specs.Result.{IfErr};
-ghost use Rattle.timefd_lang_component.specs.Tree.{Tree, compound, trees};
+ghost use Rattle.timefd_parse.specs.Tree.{Tree, compound, trees};
 ghost use Rattle.timefd_lang_fault.specs.Faults as spec;
 ghost use Rattle.timefd_lang_node_list.specs.Item.Meaning.{item_trees};
 ghost use Rattle.timefd_items.specs.Description.{description_tree};

@@ -2,7 +2,7 @@
 
 ghost use Rattle.std.specs.Prelude.{◌≡◌, ◌∷◌, ◌++◌, ◌<◌, [], List, MatchResult, OnOk, length};
 ghost use Rattle.std.specs.Result.{IfErr};
-ghost use Rattle.timefd_lang_component.specs.Tree.{Tree};
+ghost use Rattle.timefd_parse.specs.Tree.{Tree};
 ghost use Rattle.timefd_description.specs.Modern.{modern_tree};
 ghost use Rattle.timefd_description.specs.Parsed.{IsParsed};
 ghost use Rattle.timefd_items.specs.Builder.{built};

@@ -1,7 +1,7 @@
 //! A moment written by a description over the front of a buffer, without memory.
 
 ghost use Rattle.std.specs.Prelude.{◌≡◌, ◌≤◌, IfErr, IfSome, None, Ok, drop, length, map};
-ghost use Rattle.timefd_lang_component.specs.Reserved.{reserve};
+ghost use Rattle.timefd_parse.specs.Reserved.{reserve};
 ghost use Rattle.timefd_date_format.specs.Fronts.{IsFront, IsLen};
 ghost use Rattle.timefd_date_format.specs.Written.{written};
 ghost use Rattle.timefd_lang_node_list.specs.LeafMeaning.{leaf_tree};

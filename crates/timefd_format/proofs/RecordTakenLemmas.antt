@@ -3,7 +3,7 @@ use Rattle.std.proofs.Common.{ℕ, zero, suc, ◌≡◌, ◌∙◌, ◌++◌, �
 use Rattle.std.specs.Io.KnownBytes.{Appends, Consumes, IsAtEnd, Keeps}
 use Rattle.timefd_lang_component.specs.Tree.{Text}
 use Rattle.timefd_date_format.specs.declared.field.Unshown.{Unshown}
-use Rattle.timefd_language.specs.Grammar.{is_empty}
+use Rattle.timefd_parse.specs.Grammar.{is_empty}
 use Rattle.timefd_parse.specs.declared.parsing.BorrowedOutput.{BorrowedOutput}
 use Rattle.timefd_lint_rewrite.specs.Lines.{without_newline}
 use Rattle.timefd_format.specs.declared.fast.batch.Batch.{Batch}

@@ -2,7 +2,7 @@
 use Rattle.std.proofs.Common.{ℕ, ◌≡◌, ◌==◌, length, Bool, true, false, List, [], ◌∷◌, Option, Some, None, Result, Ok, Err, IfOk, refl, sym, ap, subst, ◌∙◌}
 use Rattle.std.specs.Io.KnownBytes.{IsAtEnd}
 use Rattle.timefd_lang_component.specs.Tree.{Text}
-use Rattle.timefd_language.specs.Grammar.{is_empty}
+use Rattle.timefd_parse.specs.Grammar.{is_empty}
 use Rattle.timefd_parse.specs.declared.parsing.BorrowedOutput.{BorrowedOutput}
 use Rattle.timefd_lint_rewrite.specs.Lines.{without_newline}
 use Rattle.timefd_format.specs.declared.frame.Cell.{Cell}

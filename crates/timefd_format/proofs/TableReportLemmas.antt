@@ -5,7 +5,7 @@ use Rattle.std.specs.Io.KnownBytes.{Consumes, IsAtEnd, Keeps}
 use Rattle.timefd_lang_component.specs.Tree.{Text}
 use Rattle.timefd_lint_drawing.specs.People.{for_people}
 use Rattle.timefd_date_format.specs.declared.field.Unshown.{Unshown}
-use Rattle.timefd_language.specs.Grammar.{is_empty}
+use Rattle.timefd_parse.specs.Grammar.{is_empty}
 use Rattle.timefd_parse.specs.declared.parsing.BorrowedOutput.{BorrowedOutput}
 use Rattle.timefd_lint_rewrite.specs.Lines.{without_newline}
 use Rattle.timefd_format.specs.declared.fast.take.BatchTaken.{BatchTaken}

@@ -14,8 +14,8 @@ use Rattle.timefd_format.specs.declared.asked.Wanted.TheVariants as wants
 use Rattle.timefd_format.specs.declared.column.Column.{Column}
 use Rattle.timefd_format.specs.declared.otherwise.Otherwise.{Otherwise}
 use Rattle.timefd_format.specs.declared.otherwise.Otherwise.TheVariants as otherwise
-use Rattle.timefd_language.specs.declared.description_version.DescriptionVersion.TheVariants.{One, Two, Three}
-use Rattle.timefd_language.specs.declared.description_version.Language.TheVariants as languages
+use Rattle.timefd_parse.specs.DescriptionVersion.TheVariants.{One, Two, Three}
+use Rattle.timefd_parse.specs.LanguageType.TheVariants as languages
 use Rattle.timefd_format.specs.declared.language.Wording.{Wording}
 use Rattle.timefd_format.specs.declared.language.Wording.TheVariants.{Own, Other}
 use Rattle.timefd_format.specs.declared.language.Wordings.{Wordings}

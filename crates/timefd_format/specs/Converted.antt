@@ -9,9 +9,9 @@ use Rattle.timefd_lang_dialect.specs.declared.error.DialectError.{DialectError}
 use Rattle.timefd_lang_dialect.specs.declared.error.RefusedPart.{RefusedPart}
 use Rattle.timefd_lang_dialect.specs.declared.reason.Reason.{Reason}
 use Rattle.timefd_lang_dialect.specs.declared.limits.Limits.{Limits}
-use Rattle.timefd_language.specs.declared.description_version.DescriptionVersion.TheVariants.{Three}
-use Rattle.timefd_language.specs.declared.description_version.Language.{Language}
-use Rattle.timefd_language.specs.declared.description_version.Language.TheVariants as languages
+use Rattle.timefd_parse.specs.DescriptionVersion.TheVariants.{Three}
+use Rattle.timefd_parse.specs.LanguageType.{Language}
+use Rattle.timefd_parse.specs.LanguageType.TheVariants as languages
 use Rattle.timefd_format.specs.declared.converted.Described.{Described}
 use Rattle.timefd_format.specs.declared.converted.Described.TheVariants.{Own, Converted}
 use Rattle.timefd_format.specs.declared.language.Wording.{Wording}

@@ -1,11 +1,11 @@
 -- What the text of a description is read as.
 use Rattle.std.specs.Prelude.{◌≡◌, List, map}
 use Rattle.timefd_lang_component.specs.Tree.{Text, Tree}
-use Rattle.timefd_lang_fault.specs.Faults.{fault_of}
+use Rattle.timefd_parse.specs.Faults.{fault_of}
 use Rattle.timefd_lang_node_list.specs.Item.Meaning.{item_tree}
-use Rattle.timefd_language.specs.Grammar.{nesting_limit}
-use Rattle.timefd_language.specs.declared.description_version.Language.{Language}
-use Rattle.timefd_language.specs.declared.description_version.Language.TheVariants.{Version, Strftime}
+use Rattle.timefd_parse.specs.Grammar.{nesting_limit}
+use Rattle.timefd_parse.specs.LanguageType.{Language}
+use Rattle.timefd_parse.specs.LanguageType.TheVariants.{Version, Strftime}
 use Rattle.timefd_parse.specs.declared.parsing.BorrowedOutput.{BorrowedOutput}
 use Rattle.timefd_parse.specs.declared.parsing.BorrowedOutput.TheVariants.{Items, Description}
 use Rattle.timefd_parse.specs.Answers.{IsOutput}

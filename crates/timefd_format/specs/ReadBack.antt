@@ -3,7 +3,7 @@ use Rattle.std.specs.Prelude.{◌≡◌, Bool, true, false, List, map, Option, S
 use denote.Ref.{Bor}
 use Rattle.timefd_lang_component.specs.Tree.{Text, Tree, compound, trees}
 use Rattle.timefd_lang_node_list.specs.Item.Meaning.{item_trees}
-use Rattle.timefd_items.specs.Description.{description_tree}
+use Rattle.timefd_parse.specs.Description.{description_tree}
 use Rattle.timefd_lint_warnings.specs.Found.{output_parts}
 use Rattle.timefd_date_moment.specs.declared.moment.Moment.{Moment}
 use Rattle.timefd_lang_node_list.specs.declared.leaves.Leaf.{Leaf}

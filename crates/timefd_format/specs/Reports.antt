@@ -4,7 +4,7 @@ use Rattle.std.specs.Io.KnownBytes.{Appends}
 use denote.Ref.{Bor}
 use Rattle.timefd_lang_component.specs.Tree.{Text}
 use Rattle.timefd_lint_diagnosis.specs.declared.diagnostic.Diagnostic.{Diagnostic}
-use Rattle.timefd_lint_drawing.specs.declared.draw.Format.TheVariants.{Human}
+use Rattle.timefd_lint_drawing.specs.declared.form.Format.TheVariants.{Human}
 use Rattle.timefd_lint_drawing.specs.Drawing.{drawn}
 use Rattle.timefd_lint_drawing.specs.People.{AllSeen, for_people}
 use Rattle.timefd_format.specs.declared.report.MessageFate.{MessageFate}

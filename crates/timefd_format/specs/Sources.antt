@@ -3,11 +3,11 @@ use Rattle.std.specs.Prelude.{◌≡◌, Bool, List, Option, Some, None, Result,
 use denote.Ref.{Bor}
 use Rattle.jiff_tz.specs.declared.timezone.TimeZone.{TimeZone}
 use Rattle.timefd_lang_component.specs.Tree.{Text}
-use Rattle.timefd_lang_fault.specs.Faults.{Fault}
-use Rattle.timefd_language.specs.Grammar.{nesting_limit}
+use Rattle.timefd_parse.specs.Faults.{Fault}
+use Rattle.timefd_parse.specs.Grammar.{nesting_limit}
 use Rattle.timefd_date_moment.specs.declared.moment.Moment.{Moment}
 use Rattle.timefd_lang_node_list.specs.declared.leaves.Leaf.{Leaf}
-use Rattle.timefd_language.specs.declared.description_version.Language.{Language}
+use Rattle.timefd_parse.specs.LanguageType.{Language}
 use Rattle.timefd_parse.specs.declared.parsing.BorrowedOutput.{BorrowedOutput}
 use Rattle.timefd_parse.specs.Language.{FaultIn}
 use Rattle.timefd_format.specs.declared.moment.MomentError.{MomentError}

@@ -2,7 +2,7 @@
 use Rattle.std.specs.Prelude.{ℕ, ◌≡◌, Bool, true, false, List, [], ◌∷◌, ◌⊎◌, Option, Some, None, Result, Ok, Err}
 use Rattle.std.specs.Io.KnownBytes.{Appends, IsAtEnd}
 use Rattle.timefd_lang_component.specs.Tree.{Text}
-use Rattle.timefd_language.specs.Grammar.{is_empty}
+use Rattle.timefd_parse.specs.Grammar.{is_empty}
 use Rattle.timefd_parse.specs.declared.parsing.BorrowedOutput.{BorrowedOutput}
 use Rattle.timefd_lint_rewrite.specs.Lines.{without_newline}
 use Rattle.timefd_format.specs.declared.column.Column.{Column}

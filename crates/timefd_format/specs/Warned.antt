@@ -2,11 +2,11 @@
 use Rattle.std.specs.Prelude.{◌≡◌, Bool, true, false, List, [], ◌++◌, codes, Option, Some, None}
 use denote.Ref.{Bor}
 use Rattle.timefd_lang_component.specs.Tree.{Text, Tree}
-use Rattle.timefd_lint_drawing.specs.declared.draw.Format.{Format}
+use Rattle.timefd_lint_drawing.specs.declared.form.Format.{Format}
 use Rattle.timefd_lint_drawing.specs.declared.position.Origin.{Origin}
 use Rattle.timefd_lint_warnings.specs.Found.{output_parts, style_of}
 use Rattle.timefd_lint_warnings.specs.Messages.{messages}
-use Rattle.timefd_language.specs.declared.description_version.Language.{Language}
+use Rattle.timefd_parse.specs.LanguageType.{Language}
 use Rattle.timefd_parse.specs.declared.parsing.BorrowedOutput.{BorrowedOutput}
 use Rattle.timefd_lang_warnings.specs.declared.levels.Level.{Level}
 use Rattle.timefd_lang_warnings.specs.declared.levels.Level.TheVariants.{Allowed, Warned}

@@ -12,7 +12,7 @@ use Rattle.timefd_date_format.specs.declared.write.FormatError.{FormatError}
 use Rattle.timefd_date_format.specs.declared.write.FormatError.TheVariants as lacks
 use Rattle.timefd_date_format.specs.Written.{written, written_all}
 use Rattle.timefd_lang_node_list.specs.Item.Meaning.{item_trees}
-use Rattle.timefd_items.specs.Description.{description_tree}
+use Rattle.timefd_parse.specs.Description.{description_tree}
 use Rattle.timefd_date_moment.specs.declared.moment.Moment.{Moment}
 use Rattle.timefd_parse.specs.declared.parsing.BorrowedOutput.{BorrowedOutput}
 use Rattle.timefd_parse.specs.declared.parsing.BorrowedOutput.TheVariants.{Items, Description}

@@ -2,7 +2,7 @@
 
 ghost use Rattle.std.specs.Prelude.{◌≡◌, IfOk};
 ghost use Rattle.timefd_lint_warnings.specs.Found.{output_parts};
-ghost use Rattle.timefd_language.specs.declared.description_version.Language.TheVariants as languages;
+ghost use Rattle.timefd_parse.specs.LanguageType.TheVariants as languages;
 ghost use Rattle.timefd_lang_warnings.specs.Parts.{parts};
 ghost use Rattle.timefd_format.specs.Descriptions.{IsDescribed, IsReading, IsSpelled};
 

@@ -3,7 +3,7 @@ use Rattle.std.proofs.Common.{◌≡◌, Option, Result, Ok, Err}
 use Rattle.std.specs.Prelude.{IfOk, string_bytes}
 use Rattle.std.specs.declared.alloc.Global.{Global}
 use Rattle.std.specs.declared.string.String.{String}
-use Rattle.timefd_lang_component.specs.Tree.{Text}
+use Rattle.timefd_parse.specs.Tree.{Text}
 use Rattle.timefd_lint_diagnosis.specs.Nearest.{IsNearest}
 use Rattle.timefd_lint_options.specs.Suggestions.{long_names}
 use Rattle.timefd_lint.specs.Arguments.{IsUnknown, unknown}

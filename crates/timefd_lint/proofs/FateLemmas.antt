@@ -2,7 +2,7 @@
 use Rattle.std.proofs.Common.{◌≡◌, ◌++◌, true, false, [], Option, Some, None, refl, sym, string_bytes, subst, ◌∙◌}
 use Rattle.std.specs.Io.KnownBytes.{Appends}
 use Rattle.std.specs.Prelude.{IsFalse}
-use Rattle.timefd_lang_component.specs.Tree.{Text}
+use Rattle.timefd_parse.specs.Tree.{Text}
 use Rattle.timefd_lint_rewrite.specs.Diffs.{WritesDiff}
 use Rattle.timefd_lint_rewrite.specs.Rewriting.{AreRewritten}
 use Rattle.timefd_lint_rewrite.specs.declared.line_change.LineChange.{LineChange}

@@ -7,7 +7,7 @@ use Rattle.std.proofs.lemmas.Slice.Eq.{bytes_eq-Decides}
 use Rattle.timefd_lint_options.specs.Words.{is_input}
 use mathlib.Core.Logic.{inl, inr}
 use denote.Ref.{Bor}
-use Rattle.timefd_lang_component.specs.Tree.{Text}
+use Rattle.timefd_parse.specs.Tree.{Text}
 use Rattle.timefd_lint_options.specs.declared.wording.LineLanguage.{LineLanguage}
 use Rattle.timefd_lint_sources.specs.declared.reported.Finder.{Finder}
 use Rattle.timefd_lint_sources.specs.declared.reported.Reporting.{Reporting}

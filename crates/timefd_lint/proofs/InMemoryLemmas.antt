@@ -4,7 +4,7 @@ use Rattle.std.proofs.lemmas.Bool.{false≢true}
 use Rattle.std.specs.Io.BufRead.{drop_through}
 use Rattle.std.specs.Prelude.{IsFalse, IsTrue, ◌⊎◌}
 use mathlib.Core.Logic.{inl, inr}
-use Rattle.timefd_lang_component.specs.Tree.{Text}
+use Rattle.timefd_parse.specs.Tree.{Text}
 use Rattle.timefd_lint_rewrite.specs.Lines.{AreLines, AreLinesOf}
 use Rattle.timefd_lint_sources.specs.declared.reported.Finder.{Finder}
 use Rattle.timefd_lint_sources.specs.declared.reported.Reporting.{Reporting}

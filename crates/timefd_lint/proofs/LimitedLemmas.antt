@@ -3,7 +3,7 @@ use Rattle.std.proofs.Common.{ℕ, ◌≡◌, ◌∙◌, ◌+◌, ◌<◌, ◌�
 use Rattle.std.specs.Prelude.{IfSome, IsUtf8}
 use Rattle.std.specs.Io.BufRead.{take_through, DropsThrough}
 use denote.Ref.{Bor}
-use Rattle.timefd_lang_component.specs.Tree.{Text}
+use Rattle.timefd_parse.specs.Tree.{Text}
 use Rattle.timefd_lang_dialect.specs.declared.dialect.Dialect.{Dialect}
 use Rattle.timefd_lang_dialect.specs.declared.error.RefusedPart.{RefusedPart}
 use Rattle.timefd_lang_dialect.specs.declared.reading.Converted.{Converted}

@@ -4,8 +4,8 @@ use Rattle.std.specs.Prelude.{Result, Ok, Err, IfOk, IfSome, IsUtf8, String, opt
 use Rattle.std.specs.List.{list_any}
 use Rattle.std.specs.declared.alloc.Global.{Global}
 use denote.Ref.{Bor}
-use Rattle.timefd_lang_component.specs.Tree.{Text}
-use Rattle.timefd_lang_fault.specs.Faults.{Fault}
+use Rattle.timefd_parse.specs.Tree.{Text}
+use Rattle.timefd_parse.specs.Faults.{Fault}
 use Rattle.timefd_lint_rewrite.specs.declared.layout.Layout.{Layout}
 use Rattle.timefd_lint_rewrite.specs.Layouts.{IsRefusedFor}
 use Rattle.timefd_lint_scan.specs.declared.description.SourceDescription.{SourceDescription}

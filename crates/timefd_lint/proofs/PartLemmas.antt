@@ -4,7 +4,7 @@ use Rattle.std.specs.Prelude.{min, String}
 use Rattle.std.proofs.lemmas.List.{map-append}
 use denote.Ref.{Bor}
 use Rattle.std.specs.declared.alloc.Global.{Global}
-use Rattle.timefd_lang_component.specs.Tree.{Text}
+use Rattle.timefd_parse.specs.Tree.{Text}
 use Rattle.timefd_lint_diagnosis.specs.Words.{texts}
 use Rattle.std.specs.declared.io.ErrorKind.{ErrorKind}
 use Rattle.timefd_lint_files.specs.declared.entry.FolderEntry.{FolderEntry}

@@ -6,7 +6,7 @@ use Rattle.std.proofs.lemmas.Bool.Decides.{eqb_tells}
 use Rattle.std.proofs.lemmas.Str.Pattern.{strip_prefix_char}
 use Rattle.std.specs.declared.alloc.Global.{Global}
 use denote.Ref.{Bor}
-use Rattle.timefd_lang_component.specs.Tree.{Text}
+use Rattle.timefd_parse.specs.Tree.{Text}
 use Rattle.timefd_lint_files.specs.declared.groups.NameGroup.{NameGroup}
 use Rattle.timefd_lint.specs.declared.projects.Named.{Named}
 use Rattle.std.specs.declared.io.ErrorKind.{ErrorKind}

@@ -1,7 +1,7 @@
 -- What is written back into a source.
 use Rattle.std.proofs.Common.{◌≡◌, List, [], subst}
 use Rattle.std.specs.Prelude.{IsUtf8}
-use Rattle.timefd_lang_component.specs.Tree.{Text}
+use Rattle.timefd_parse.specs.Tree.{Text}
 use Rattle.timefd_lint_rewrite.specs.declared.counts.Counts.{Counts}
 use Rattle.timefd_lint_sources.specs.declared.rewriting.change.Change.{Change}
 use Rattle.timefd_lint_sources.specs.declared.rewriting.source.NewSource.{NewSource}

@@ -5,12 +5,12 @@ use Rattle.std.specs.Prelude.{IfOk}
 use Rattle.std.specs.Result.{OnOk}
 use Rattle.std.specs.declared.alloc.Global.{Global}
 use Rattle.std.specs.declared.vec.Vec.{Vec}
-use Rattle.timefd_lang_fault.specs.declared.code.Code.{Code}
+use Rattle.timefd_parse.specs.Code.{Code}
 use Rattle.timefd_lint.specs.Logs.{IsHead, WritesLog, joined, program}
 use Rattle.std.proofs.lemmas.List.{append_assoc}
-use Rattle.timefd_lang_fault.specs.Codes as faults
+use Rattle.timefd_parse.specs.Codes as faults
 use Rattle.timefd_lint_lsp.specs.Editor.Each.{Adds, AreOf}
-use Rattle.timefd_lang_component.specs.Tree.{Text}
+use Rattle.timefd_parse.specs.Tree.{Text}
 use Rattle.timefd_lint.specs.declared.error_code.ErrorCode.{ErrorCode}
 use Rattle.timefd_lint.specs.ErrorCodes.{name_of}
 use Rattle.timefd_lang_dialect.specs.declared.reason.Reason.{Reason}

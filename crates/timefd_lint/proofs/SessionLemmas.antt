@@ -3,7 +3,7 @@ use Rattle.std.proofs.Common.{◌≡◌, Bool, Option, Some, Result, Ok, Err, St
 use Rattle.std.specs.Prelude.{OnErr}
 use Rattle.std.specs.declared.alloc.Global.{Global}
 use Rattle.std.specs.declared.io.ErrorKind.{ErrorKind}
-use Rattle.timefd_lang_component.specs.Tree.{Text}
+use Rattle.timefd_parse.specs.Tree.{Text}
 use Rattle.timefd_lint_lsp.specs.declared.server.Server.{Server}
 use Rattle.timefd_lint_lsp.specs.declared.session.SessionEnd.{SessionEnd}
 use Rattle.timefd_lint_lsp.specs.Sessions.{at}

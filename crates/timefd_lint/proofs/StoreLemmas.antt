@@ -1,7 +1,7 @@
 -- Named files that are rewritten, one after another.
 use Rattle.std.proofs.Common.{◌≡◌, ◌∷◌, [], Bool, List, Option, Some, inl, refl, sym, subst, string_bytes}
 use denote.Ref.{Bor}
-use Rattle.timefd_lang_component.specs.Tree.{Text}
+use Rattle.timefd_parse.specs.Tree.{Text}
 use Rattle.timefd_lint.specs.declared.fix.FixError.{FixError}
 use Rattle.timefd_lint.specs.declared.found.FoundInFile.{FoundInFile}
 use Rattle.timefd_lint.specs.declared.identity.Identity.{Identity}

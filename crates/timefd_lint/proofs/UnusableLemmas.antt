@@ -3,7 +3,7 @@ use Rattle.std.proofs.Common.{◌≡◌, Option, Some, None, Result, Ok, Err, If
 use Rattle.std.specs.Prelude.{IfSome, IsUtf8, String}
 use Rattle.std.specs.declared.alloc.AllocError.{AllocError}
 use Rattle.std.specs.declared.alloc.Global.{Global}
-use Rattle.timefd_lang_component.specs.Tree.{Text}
+use Rattle.timefd_parse.specs.Tree.{Text}
 use Rattle.timefd_lang_warnings.specs.declared.warning.Warning.{Warning}
 use Rattle.timefd_lang_warnings.specs.Codes as warnings
 use Rattle.timefd_lint_options.specs.declared.config.error.ConfigError.{ConfigError}

@@ -1,8 +1,9 @@
 -- What is wrong with the arguments, in a sentence.
 use Rattle.std.specs.Prelude.{◌≡◌, ◌++◌, codes, Option, Some, None}
 use Rattle.std.specs.List.{join_by}
-use Rattle.timefd_lang_component.specs.Tree.{Text}
+use Rattle.timefd_parse.specs.Tree.{Text}
 use Rattle.timefd_lint_diagnosis.specs.Nearest.{IsNearest}
+use Rattle.timefd_lint_drawing.specs.Forms as forms
 use Rattle.timefd_lint_drawing.specs.Shown.{safe}
 use Rattle.timefd_lint_scan.specs.declared.keys.key.KeyFault.{KeyFault}
 use Rattle.timefd_lint_scan.specs.declared.keys.key.KeyFault.TheVariants.{NoEqualsSign, EmptyName, UnknownLanguage}
@@ -25,13 +26,16 @@ name To = codes "--to"
 name Deny = codes "--deny"
 name Allow = codes "--allow"
 
+abbrev pub form_names : Text
+form_names = codes "one of " ++ forms.names
+
 abbrev pub warning_names : Text
 warning_names = codes "one of " ++ join_by warnings.name_of (codes ", ") warnings.all
 
 -- the values that an option takes
 abbrev pub values : Valued → Text
 values Language = codes "one of 1, 2, 3, strftime, python, c, gnu, chrono, jiff, ruby, java, go, moment"
-values Format = codes "one of human, json, short, github, sarif"
+values Format = form_names
 values Color = codes "one of always, never, auto"
 values Comment = codes "a mark that is not empty"
 values Key = codes "a key and its language, as `time_format=3`"

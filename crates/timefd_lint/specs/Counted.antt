@@ -1,6 +1,6 @@
 -- What of the settings counts in a run.
 use Rattle.std.specs.Prelude.{Bool, not, ◌&&◌, ◌||◌, ◌==◌, List, [], ◌∷◌, Option, Some, None, codes, length, if◌then◌else◌}
-use Rattle.timefd_lang_component.specs.Tree.{Text}
+use Rattle.timefd_parse.specs.Tree.{Text}
 use Rattle.timefd_lint_scan.specs.declared.keys.key.DescriptionKey.{DescriptionKey}
 use Rattle.timefd_lint_options.specs.declared.config.keys.OwnedKey.{OwnedKey}
 use Rattle.timefd_lint_options.specs.declared.settings.RunSettings.{RunSettings}

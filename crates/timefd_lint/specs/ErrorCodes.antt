@@ -1,9 +1,9 @@
 -- The names of errors.
 use Rattle.std.specs.Prelude.{◌≡◌, Option, Some, None, codes, bytes_eq, if◌then◌else◌}
-use Rattle.timefd_lang_component.specs.Tree.{Text}
-use Rattle.timefd_lang_fault.specs.declared.code.Code.{Code}
-use Rattle.timefd_lang_fault.specs.declared.code.Code.TheVariants as faults
-use Rattle.timefd_lang_fault.specs.Codes as of_faults
+use Rattle.timefd_parse.specs.Tree.{Text}
+use Rattle.timefd_parse.specs.Code.{Code}
+use Rattle.timefd_parse.specs.Code.TheVariants as faults
+use Rattle.timefd_parse.specs.Codes as of_faults
 use Rattle.timefd_lint.specs.declared.error_code.ErrorCode.{ErrorCode}
 use Rattle.timefd_lint.specs.declared.error_code.ErrorCode.TheVariants.{Fault, NotText, Unreadable, Unwritable, ByteOrderMark, UnknownLanguage, UnknownCode}
 

@@ -1,8 +1,8 @@
 -- What each error means, and what to write instead.
 use Rattle.std.specs.Prelude.{codes}
-use Rattle.timefd_lang_component.specs.Tree.{Text}
-use Rattle.timefd_lang_fault.specs.declared.code.Code.{Code}
-use Rattle.timefd_lang_fault.specs.declared.code.Code.TheVariants as faults
+use Rattle.timefd_parse.specs.Tree.{Text}
+use Rattle.timefd_parse.specs.Code.{Code}
+use Rattle.timefd_parse.specs.Code.TheVariants as faults
 use Rattle.timefd_lint.specs.declared.error_code.ErrorCode.{ErrorCode}
 use Rattle.timefd_lint.specs.declared.error_code.ErrorCode.TheVariants.{Fault, NotText, Unreadable, Unwritable, ByteOrderMark, UnknownLanguage, UnknownCode}
 

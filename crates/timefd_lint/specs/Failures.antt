@@ -3,7 +3,7 @@ use Rattle.std.specs.Prelude.{◌≡◌, codes}
 use denote.Ref.{Bor}
 use Rattle.std.specs.declared.io.ErrorKind.{ErrorKind}
 use Rattle.std.specs.declared.io.ErrorKind.TheVariants.{NotFound, IsADirectory, PermissionDenied}
-use Rattle.timefd_lang_component.specs.Tree.{Text}
+use Rattle.timefd_parse.specs.Tree.{Text}
 use Rattle.timefd_lint_drawing.specs.declared.draw.Style.{Style}
 use Rattle.timefd_lint_drawing.specs.Drawing.{note}
 use Rattle.timefd_lint.specs.declared.failure.Failure.{Failure}

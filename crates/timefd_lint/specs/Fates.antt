@@ -2,7 +2,7 @@
 use Rattle.std.specs.Prelude.{◌≡◌, ◌⊎◌, ◌==◌, Bool, true, false, ◌&&◌, not, nat_eq, nat_lt, if◌then◌else◌, length, Option, Some, None, [], IsFalse, IsTrue, string_bytes}
 use Rattle.std.specs.Io.KnownBytes.{Appends}
 use denote.Ref.{Bor}
-use Rattle.timefd_lang_component.specs.Tree.{Text}
+use Rattle.timefd_parse.specs.Tree.{Text}
 use Rattle.timefd_lint_rewrite.specs.Diffs.{WritesDiff}
 use Rattle.timefd_lint_rewrite.specs.Rewriting.{AreRewritten}
 use Rattle.timefd_lint_rewrite.specs.declared.counts.Counts.{Counts}

@@ -2,7 +2,7 @@
 use Rattle.std.specs.Prelude.{◌≡◌, ◌⊎◌, codes, Bool, true, false, List, [], ◌∷◌, Option}
 use Rattle.std.specs.Io.KnownBytes.{Appends}
 use denote.Ref.{Bor}
-use Rattle.timefd_lang_component.specs.Tree.{Text}
+use Rattle.timefd_parse.specs.Tree.{Text}
 use Rattle.timefd_lint_options.specs.Words.{is_input}
 use Rattle.timefd_lint.specs.declared.failure.OpenError.{OpenError}
 use Rattle.timefd_lint.specs.declared.failure.OpenError.TheVariants.{Memory, Failed}

@@ -1,7 +1,7 @@
 -- How the check of a text ends.
 use Rattle.std.specs.Prelude.{◌≡◌, Option, IsUtf8, IsTrue, IsFalse, length}
 use denote.Ref.{Bor}
-use Rattle.timefd_lang_component.specs.Tree.{Text}
+use Rattle.timefd_parse.specs.Tree.{Text}
 use Rattle.timefd_lint_options.specs.declared.wording.LineLanguage.{LineLanguage}
 use Rattle.timefd_lint_options.specs.declared.wording.LineLanguage.TheVariants.{Own, Other}
 use Rattle.timefd_lint_rewrite.specs.Lines.{is_passed_over}

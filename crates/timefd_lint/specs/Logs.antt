@@ -1,7 +1,7 @@
 -- A log of results.
 use Rattle.std.specs.Prelude.{◌≡◌, ℕ, List, Option, ◌++◌, codes, drop}
 use Rattle.std.specs.Io.KnownBytes.{Appends}
-use Rattle.timefd_lang_component.specs.Tree.{Text}
+use Rattle.timefd_parse.specs.Tree.{Text}
 use Rattle.timefd_lint.specs.Rules.{AreRules}
 
 -- A comma precedes each member of a list. The first one's is left out in a log.

@@ -2,11 +2,11 @@
 use Rattle.std.specs.Prelude.{ℕ, ◌≡◌, ◌⊎◌, ◌++◌, Bool, true, false, codes, List, [], ◌∷◌, Option, Some, None, IsUtf8}
 use Rattle.std.specs.Fmt.{decimal}
 use Rattle.std.specs.List.{list_any}
-use Rattle.timefd_lang_component.specs.Tree.{Text}
+use Rattle.timefd_parse.specs.Tree.{Text}
 use Rattle.timefd_lint_drawing.specs.Positions.{column, line_number}
 use Rattle.timefd_lint_drawing.specs.Shown.{safe}
-use Rattle.timefd_lang_fault.specs.Faults.{Fault}
-use Rattle.timefd_language.specs.declared.description_version.DescriptionVersion.TheVariants as versions
+use Rattle.timefd_parse.specs.Faults.{Fault}
+use Rattle.timefd_parse.specs.DescriptionVersion.TheVariants as versions
 use Rattle.timefd_lint_rewrite.specs.declared.layout.Layout.{Layout}
 use Rattle.timefd_lint_rewrite.specs.Layouts.{IsRefusedFor}
 use Rattle.timefd_lint_scan.specs.declared.description.SourceDescription.{SourceDescription}

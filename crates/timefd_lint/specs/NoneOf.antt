@@ -1,7 +1,7 @@
 -- A word that is none of those that there are.
 use Rattle.std.specs.Prelude.{◌≡◌, List, ◌++◌, Option, Some, None, codes}
 use Rattle.std.specs.List.{join_by}
-use Rattle.timefd_lang_component.specs.Tree.{Text}
+use Rattle.timefd_parse.specs.Tree.{Text}
 use Rattle.timefd_lint_diagnosis.specs.Nearest.{IsNearest}
 use Rattle.timefd_lint_drawing.specs.Shown.{safe}
 

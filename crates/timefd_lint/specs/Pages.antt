@@ -2,7 +2,7 @@
 use Rattle.std.specs.Prelude.{List, [], ◌∷◌, ◌++◌, Option, Some, None, ◌&&◌, not, codes, bytes_eq, nat_eq, if◌then◌else◌}
 use Rattle.std.specs.List.{starts_with}
 use denote.Ref.{Bor}
-use Rattle.timefd_lang_component.specs.Tree.{Text}
+use Rattle.timefd_parse.specs.Tree.{Text}
 use Rattle.timefd_lang_warnings.specs.declared.warning.Warning as warnings
 use Rattle.timefd_lang_warnings.specs.Codes as of_warnings
 use Rattle.timefd_lint.specs.declared.error_code.ErrorCode.{ErrorCode}

@@ -3,7 +3,7 @@ use Rattle.std.specs.Prelude.{ℕ, ◌≡◌, ◌==◌, ◌+◌, ◌-◌, ◌^�
 use denote.Ref.{Bor}
 use Rattle.std.specs.List.{ends_with, list_all}
 use Rattle.std.specs.declared.io.ErrorKind.{ErrorKind}
-use Rattle.timefd_lang_component.specs.Tree.{Text}
+use Rattle.timefd_parse.specs.Tree.{Text}
 use Rattle.timefd_lint_diagnosis.specs.Words.{texts}
 use Rattle.timefd_lint_files.specs.declared.entry.FolderEntry.{FolderEntry}
 use Rattle.timefd_lint_files.specs.declared.start.Excluded.{Excluded}

@@ -1,7 +1,7 @@
 -- What the files of settings say that are found for names.
 use Rattle.std.specs.Prelude.{◌≡◌, nat_eq, if◌then◌else◌, List, [], ◌∷◌, Option, Some, None, Ok, codes, string_bytes, Bool, ⊤}
 use denote.Ref.{Bor}
-use Rattle.timefd_lang_component.specs.Tree.{Text}
+use Rattle.timefd_parse.specs.Tree.{Text}
 use Rattle.std.specs.declared.io.ErrorKind.{ErrorKind}
 use Rattle.timefd_lint_files.specs.declared.groups.NameGroup.{NameGroup}
 use Rattle.timefd_lint_files.specs.declared.upwards.Nearest.{Nearest}

@@ -1,7 +1,7 @@
 -- The release of `time` that a source needs once it is converted.
 use Rattle.std.specs.Prelude.{Bool, true, false, ◌&&◌, [], codes}
-use Rattle.timefd_lang_component.specs.Tree.{Text}
-use Rattle.timefd_language.specs.declared.description_version.DescriptionVersion.TheVariants as versions
+use Rattle.timefd_parse.specs.Tree.{Text}
+use Rattle.timefd_parse.specs.DescriptionVersion.TheVariants as versions
 use Rattle.timefd_lint_sources.specs.declared.rewriting.change.Change.{Change}
 use Rattle.timefd_lint_sources.specs.declared.rewriting.change.Change.TheVariants.{Mended, Least, Normal}
 use Rattle.timefd_lint.specs.declared.options.RunOptions.{RunOptions}

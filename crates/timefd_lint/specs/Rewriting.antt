@@ -1,14 +1,14 @@
 -- How files are rewritten, and what is reported about it.
 use Rattle.std.specs.Prelude.{ℕ, Bool, true, false, ◌++◌, codes, Option, Some, None, if◌then◌else◌}
 use Rattle.std.specs.Fmt.{decimal}
-use Rattle.timefd_lang_component.specs.Tree.{Text}
+use Rattle.timefd_parse.specs.Tree.{Text}
 use Rattle.timefd_lang_convert.specs.declared.conversion.Conversion.{Conversion}
 use Rattle.timefd_lang_convert.specs.Conversions.{conversion_between}
 use Rattle.timefd_lang_dialect.specs.declared.dialect.Dialect.{Dialect}
-use Rattle.timefd_language.specs.declared.description_version.DescriptionVersion.{DescriptionVersion}
-use Rattle.timefd_language.specs.declared.description_version.DescriptionVersion.TheVariants.{One, Two, Three}
-use Rattle.timefd_language.specs.declared.description_version.Language.{Language}
-use Rattle.timefd_language.specs.declared.description_version.Language.TheVariants.{Version}
+use Rattle.timefd_parse.specs.DescriptionVersion.{DescriptionVersion}
+use Rattle.timefd_parse.specs.DescriptionVersion.TheVariants.{One, Two, Three}
+use Rattle.timefd_parse.specs.LanguageType.{Language}
+use Rattle.timefd_parse.specs.LanguageType.TheVariants.{Version}
 use Rattle.timefd_lint_rewrite.specs.declared.counts.Counts.{Counts}
 use Rattle.timefd_lint_rewrite.specs.declared.layout.Layout.TheVariants as layouts
 use Rattle.timefd_lint_rewrite.specs.declared.line_change.LineChange.{LineChange}

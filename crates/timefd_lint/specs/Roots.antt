@@ -2,7 +2,7 @@
 use Rattle.std.specs.Prelude.{ℕ, ◌≡◌, ◌⊎◌, ◌++◌, Bool, List, Option, Some, None, Result, Ok, Err, IsUtf8, String, codes, string_bytes, if◌then◌else◌, ⊤}
 use Rattle.std.specs.declared.alloc.Global.{Global}
 use Rattle.std.specs.declared.io.ErrorKind.{ErrorKind}
-use Rattle.timefd_lang_component.specs.Tree.{Text}
+use Rattle.timefd_parse.specs.Tree.{Text}
 use Rattle.timefd_lint_lsp.specs.declared.server.Server.{Server}
 use Rattle.timefd_lint_lsp.specs.declared.server.EditorSettings as editors
 use Rattle.timefd_lint_lsp.specs.declared.session.SessionEnd.{SessionEnd}

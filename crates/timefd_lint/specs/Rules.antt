@@ -1,8 +1,8 @@
 -- The rules of a log: one for each code that a result may have.
 use Rattle.std.specs.Prelude.{◌≡◌, List, [], ◌∷◌, ◌++◌, codes}
-use Rattle.timefd_lang_component.specs.Tree.{Text}
-use Rattle.timefd_lang_fault.specs.declared.code.Code.{Code}
-use Rattle.timefd_lang_fault.specs.Codes as faults
+use Rattle.timefd_parse.specs.Tree.{Text}
+use Rattle.timefd_parse.specs.Code.{Code}
+use Rattle.timefd_parse.specs.Codes as faults
 use Rattle.timefd_lint_drawing.specs.Json.{quoted}
 use Rattle.timefd_lint_lsp.specs.Editor.Each.{AreOf}
 use Rattle.timefd_lint.specs.declared.error_code.ErrorCode.{ErrorCode}

@@ -3,7 +3,7 @@ use Rattle.std.specs.Prelude.{◌≡◌, ◌⊎◌, Bool, true, false, not, ◌&
 use Rattle.std.specs.List.{ends_with}
 use Rattle.std.specs.Io.KnownBytes.{Appends}
 use denote.Ref.{Bor}
-use Rattle.timefd_lang_component.specs.Tree.{Text}
+use Rattle.timefd_parse.specs.Tree.{Text}
 use Rattle.timefd_lint_options.specs.declared.wording.LineLanguage.{LineLanguage}
 use Rattle.timefd_lint_scan.specs.declared.description.SourceDescription.{SourceDescription}
 use Rattle.timefd_lint_scan.specs.declared.keys.format.FileFormat.{FileFormat}

@@ -1,6 +1,6 @@
 -- What is reported on the standard error with a status.
 use Rattle.std.specs.Prelude.{ℕ, ◌≡◌, ◌⊎◌, ◌++◌, nat_eq, if◌then◌else◌, Bool, true, false, Option, Some, None, codes, string_bytes}
-use Rattle.timefd_lang_component.specs.Tree.{Text}
+use Rattle.timefd_parse.specs.Tree.{Text}
 use Rattle.timefd_lint.specs.declared.config.ConfigFailure.{ConfigFailure}
 use Rattle.timefd_lint.specs.declared.config.ConfigFailure.TheVariants.{Memory, Wrong}
 use Rattle.timefd_lint.specs.Fates.{Reports}

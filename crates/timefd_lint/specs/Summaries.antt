@@ -1,7 +1,7 @@
 -- The line that says how much was checked.
 use Rattle.std.specs.Prelude.{ℕ, Bool, true, false, ◌++◌, codes, nat_eq, if◌then◌else◌}
 use Rattle.std.specs.Fmt.{decimal}
-use Rattle.timefd_lang_component.specs.Tree.{Text}
+use Rattle.timefd_parse.specs.Tree.{Text}
 use Rattle.timefd_lint.specs.declared.tally.LintTally.{LintTally}
 
 -- the word for one, or for any other number

@@ -1,7 +1,7 @@
 -- Notes on values of keys that are rewritten.
 use Rattle.std.specs.Prelude.{ℕ, ◌≡◌, Bool, true, false, List, [], ◌∷◌, ◌++◌, codes, if◌then◌else◌, Option, None, Some, IsUtf8, ◌⊎◌}
 use Rattle.std.specs.Fmt.{decimal}
-use Rattle.timefd_lang_component.specs.Tree.{Text}
+use Rattle.timefd_parse.specs.Tree.{Text}
 use Rattle.timefd_lint_drawing.specs.Positions.{column, line_number}
 use Rattle.timefd_lint_drawing.specs.Shown.{safe}
 use Rattle.timefd_lint_rewrite.specs.declared.line_change.LineChange.{LineChange}

@@ -7,6 +7,7 @@ ghost use Rattle.timefd_lint.specs.Arguments as spec;
 
 use std::alloc::{AllocError, Global};
 use timefd_lang_warnings::Warning;
+use timefd_lint_drawing::push_form_names;
 use timefd_lint_drawing::shown::safe;
 use timefd_lint_options::{Conflict, OptionError, Valued, nearest_option};
 use timefd_lint_scan::keys::KeyFault;
@@ -103,13 +104,22 @@ fn values(alloc: Global, option: Valued) -> Result<String, AllocError>
             alloc,
             "one of 1, 2, 3, strftime, python, c, gnu, chrono, jiff, ruby, java, go, moment",
         ),
-        Valued::Format => String::from_str(alloc, "one of human, json, short, github, sarif"),
+        Valued::Format => form_names(alloc),
         Valued::Color => String::from_str(alloc, "one of always, never, auto"),
         Valued::Comment => String::from_str(alloc, "a mark that is not empty"),
         Valued::Key => String::from_str(alloc, "a key and its language, as `time_format=3`"),
         Valued::To => String::from_str(alloc, "one of 2, 3"),
         Valued::Deny | Valued::Allow => warning_names(alloc),
     }
+}
+
+// The names of all forms.
+fn form_names(alloc: Global) -> Result<String, AllocError>
+    ensures { IfOk result (λ text. string_bytes text ≡ spec.form_names) }
+{
+    let mut names = String::from_str(alloc, "one of ")?;
+    push_form_names(&mut names)?;
+    Ok(names)
 }
 
 // The names of all warnings.

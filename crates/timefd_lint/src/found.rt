@@ -1,7 +1,7 @@
 //! What is found in a file that is rewritten or mended, and its new bytes.
 
 ghost use Rattle.std.specs.Prelude.{◌≡◌, Option, Some, [], IfErr, IfOk, IsFalse, false, string_bytes};
-ghost use Rattle.timefd_lang_component.specs.Tree.{Text};
+ghost use Rattle.timefd_parse.specs.Tree.{Text};
 ghost use Rattle.timefd_lint.specs.Causes.{IsCausedBy};
 ghost use Rattle.timefd_lint.specs.Limited.{AreNotesFor};
 ghost use Rattle.timefd_lint.specs.Rewritten.{AreCounted, AreManualNotes, AreNotesOnLimits, IsFileNoted, IsFileRewritten};

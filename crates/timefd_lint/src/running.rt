@@ -1,7 +1,7 @@
 //! A run over the files of the system and the standard input.
 
 ghost use Rattle.std.specs.Prelude.{◌≡◌, IfErr, IfOk, None, false};
-ghost use Rattle.timefd_lint_options.specs.Conflicts.{is_log};
+ghost use Rattle.timefd_lint_drawing.specs.Forms.{is_log};
 ghost use Rattle.timefd_lint.specs.Causes.{IsCausedBy};
 ghost use Rattle.timefd_lint.specs.Rewriting.{rewriting_of};
 ghost use Rattle.timefd_lint.specs.Parts.{AreRun, IsRunOfPart};
@@ -19,7 +19,7 @@ use crate::tally::LintTally;
 use std::alloc::Global;
 use std::io::BufReader;
 use timefd_bin_streams::{BufferedSource, FromBufReader, Sink, ToWriter, borrowed};
-use timefd_lint_options::{RunSettings, is_log};
+use timefd_lint_options::RunSettings;
 
 /// Checks the files or rewrites them, and writes the report in the chosen format.
 pub fn run_in_form<W: Sink>(
@@ -35,7 +35,7 @@ pub fn run_in_form<W: Sink>(
         → IfOk result (AreRun is_colored parts.now (W.contents output.old) (W.contents output.new)) }
     ensures unwritten { IfErr result (IsCausedBy (W.has_failed output.new)) }
 {
-    if is_log(settings.format) {
+    if settings.format.is_log() {
         run_logged(rt, settings, is_colored, parts, output)
     } else {
         run_and_rewrite(rt, settings, is_colored, parts, audience, output)

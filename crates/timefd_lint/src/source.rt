@@ -1,7 +1,7 @@
 //! Where a run gets its files from.
 
 ghost use Rattle.std.specs.Prelude.{Option, IfOk, IfErr, ⊤};
-ghost use Rattle.timefd_lang_component.specs.Tree.{Text};
+ghost use Rattle.timefd_parse.specs.Tree.{Text};
 ghost use Rattle.timefd_lint.specs.declared.failure.OpenError.{OpenError};
 
 use crate::failure::{OpenError, unread};

@@ -1,7 +1,7 @@
 //! Where files are read whole and replaced.
 
 ghost use Rattle.std.specs.Prelude.{Option, IfOk, IfErr, OnOk, ⊤};
-ghost use Rattle.timefd_lang_component.specs.Tree.{Text};
+ghost use Rattle.timefd_parse.specs.Tree.{Text};
 ghost use Rattle.timefd_lint.specs.declared.fix.FixError.{FixError};
 ghost use Rattle.timefd_lint.specs.declared.identity.Identity.{Identity};
 

@@ -10,7 +10,7 @@ use mathlib.Core.Logic.{inl, inr}
 use Rattle.std.proofs.lemmas.Bool.{and_parts, cases_lt}
 use Rattle.std.proofs.lemmas.Bool.Decides.{nat_tests}
 use Rattle.std.proofs.lemmas.Str.Pattern.{rfind_char, strip_prefix_char}
-use Rattle.timefd_lang_component.specs.Tree.{Text, Tree}
+use Rattle.timefd_parse.specs.Tree.{Text, Tree}
 use Rattle.timefd_lang_fault.specs.Faults.{fault_of}
 use Rattle.timefd_language.specs.Bytes.{left, right, backslash, is_special, is_run_byte, ZeroOrMore, StopsBefore}
 use Rattle.timefd_language.specs.Cut.{IsCut}

@@ -2,7 +2,7 @@
 -- been.
 use Rattle.std.proofs.Common.{ℕ, ◌≡◌, ◌+◌, [], ◌++◌, take, length, refl, sym, ap, ◌∙◌, subst, arith, append_assoc, length-append}
 use Rattle.std.proofs.Math.Seq.{take-append_seam}
-use Rattle.timefd_lang_component.specs.Tree.{Text}
+use Rattle.timefd_parse.specs.Tree.{Text}
 use Rattle.timefd_language.specs.Bytes.{is_version_three}
 use Rattle.timefd_language.specs.Grammar.{nested_text, parts_from}
 use Rattle.timefd_language.specs.Head.{head_text}

@@ -9,7 +9,7 @@ use Rattle.std.proofs.lemmas.Grind.{take_at_read}
 use Rattle.timefd_lint_diagnosis.specs.Words.{texts}
 use Rattle.std.proofs.lemmas.List.Elements.{All-append, All-cons, All-push, All-weaker, All-nil}
 use Rattle.strsim.specs.Edits.{damerau}
-use Rattle.timefd_lang_component.specs.Tree.{Text}
+use Rattle.timefd_parse.specs.Tree.{Text}
 use Rattle.timefd_lint_diagnosis.specs.declared.nearest.Best.{Best}
 use Rattle.timefd_lint_diagnosis.specs.Edits.{IsChange, put_in, taken_away, replaced, swapped, IsEdit, IsMadeBy, IsDistance}
 use Rattle.timefd_lint_diagnosis.specs.Nearest.{reach, IsAsFarAs, IsFirstNearest, IsNearest, IsSoFar, IsNext}

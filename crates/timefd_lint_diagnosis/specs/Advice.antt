@@ -1,7 +1,7 @@
 -- What to do against a fault, in words.
 use Rattle.std.specs.Prelude.{◌≡◌, ◌++◌, ◌==◌, ◌||◌, true, codes, flat_map, is_some}
 use Rattle.std.specs.List.{list_all}
-use Rattle.timefd_lang_component.specs.Tree.{Text}
+use Rattle.timefd_parse.specs.Tree.{Text}
 use Rattle.timefd_language.specs.Letters as table
 use Rattle.timefd_language.specs.Letters.{is_one_of, item_in, unflagged}
 use Rattle.timefd_language.specs.Strftime.{percent}

@@ -4,7 +4,7 @@ use Rattle.std.specs.Prelude.{ℕ, zero, suc, ◌≡◌, ◌-◌, ◌==◌, List
 use Rattle.std.specs.Option.{option_and_then}
 use Rattle.std.specs.List.{repeat}
 use Rattle.std.specs.Path.{rfind_below}
-use Rattle.timefd_lang_component.specs.Tree.{Text, Tree}
+use Rattle.timefd_parse.specs.Tree.{Text, Tree}
 use Rattle.timefd_lang_fault.specs.Faults.{Fault, fault_of}
 use Rattle.timefd_language.specs.Bytes.{left, backslash, right, is_special}
 use Rattle.timefd_language.specs.Grammar.{nesting_limit}

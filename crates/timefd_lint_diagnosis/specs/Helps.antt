@@ -1,7 +1,7 @@
 -- What helps against a fault.
 use Rattle.std.specs.Prelude.{ℕ, ◌≡◌, Bool, None, Option, map, take, option_map}
 use Rattle.std.specs.Char.{to_ascii_lowercase}
-use Rattle.timefd_lang_component.specs.Tree.{Text}
+use Rattle.timefd_parse.specs.Tree.{Text}
 use Rattle.timefd_lang_fault.specs.Faults.{Fault, Kind, invalid_name, invalid_modifier, invalid_combination}
 use Rattle.timefd_language.specs.declared.description_version.DescriptionVersion.{DescriptionVersion}
 use Rattle.timefd_language.specs.Bytes.{is_version_three}

@@ -2,7 +2,7 @@
 use Rattle.std.specs.Prelude.{ℕ, ◌≡◌, ◌≤◌, ◌<◌, ◌+◌, ◌/◌, max, List, [], ◌∷◌, ◌++◌, length, Option, Some, None, All, chars, nat_eq, nat_lt, ◌⊎◌, if◌then◌else◌}
 use denote.Ref.{Bor}
 use Rattle.std.specs.List.{list_any}
-use Rattle.timefd_lang_component.specs.Tree.{Text}
+use Rattle.timefd_parse.specs.Tree.{Text}
 use Rattle.timefd_lint_diagnosis.specs.declared.nearest.Best.{Best}
 use Rattle.timefd_lint_diagnosis.specs.Edits.{IsDistance, IsMadeBy}
 

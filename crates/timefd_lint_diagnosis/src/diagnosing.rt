@@ -1,7 +1,7 @@
 //! What is wrong with a text: its fault, which bytes are at fault, and what helps.
 
 ghost use Rattle.std.specs.Prelude.{◌≡◌, List, None, IfOk, IfSome};
-ghost use Rattle.timefd_lang_component.specs.Tree.{Tree};
+ghost use Rattle.timefd_parse.specs.Tree.{Tree};
 ghost use Rattle.timefd_lang_fault.specs.BorrowedFaults.{to_borrowed_fault};
 ghost use Rattle.timefd_lang_fault.specs.Placed.{IsPlaced};
 ghost use Rattle.timefd_lang_fault.specs.Faults.{fault_of};

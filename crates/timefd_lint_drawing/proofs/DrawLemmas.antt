@@ -9,7 +9,8 @@ use Rattle.timefd_lint_drawing.specs.declared.position.Origin.{Origin}
 use Rattle.timefd_lint_drawing.specs.declared.position.Position.{Position}
 use Rattle.timefd_lint_drawing.specs.declared.severity.FindingSeverity.TheVariants.{Error}
 use Rattle.timefd_lint_drawing.specs.Drawing.{code, drawn_as, fault_end, part_at, sentence_in}
-use Rattle.timefd_lint_drawing.specs.Findings.{Located, drawn_at}
+use Rattle.timefd_lint_drawing.specs.Findings.{Located}
+use Rattle.timefd_lint_drawing.specs.Forms.{drawn_at}
 use Rattle.timefd_lint_drawing.specs.HelpText.{help_text}
 
 pub drawn_fault : (kind : FindingKind) (style : Style) (origin : Origin) (text : Text) (d : Diagnostic) (l : Located)

@@ -5,5 +5,6 @@ pub mod CounterLemmas
 pub mod DrawLemmas
 pub mod JsonLemmas
 pub mod FindingLemmas
+pub mod FormLemmas
 pub mod GithubLemmas
 pub mod RowLemmas

@@ -1,5 +1,5 @@
 -- A diagnostic as it is written in each form.
-use Rattle.std.specs.Prelude.{ℕ, List, ◌++◌, Option, None, Some, flat_map}
+use Rattle.std.specs.Prelude.{ℕ, Bool, true, false, List, ◌++◌, Option, None, Some, flat_map}
 use Rattle.timefd_lang_component.specs.Tree.{Text}
 use Rattle.timefd_lang_fault.specs.Faults.{fault_of}
 use Rattle.timefd_lang_fault.specs.Sentences.{error_sentence}
@@ -7,16 +7,18 @@ use Rattle.timefd_lang_fault.specs.Codes.{code_of, name_of}
 use Rattle.timefd_lint_diagnosis.specs.declared.diagnostic.Diagnostic.{Diagnostic}
 use Rattle.timefd_lint_diagnosis.specs.declared.diagnostic.Span.{Span}
 use Rattle.timefd_lint_diagnosis.specs.Helps.{nearest_in}
-use Rattle.timefd_lint_drawing.specs.declared.draw.Format.{Format}
-use Rattle.timefd_lint_drawing.specs.declared.draw.Format.TheVariants.{Human, Json, Short, Github, Sarif}
 use Rattle.timefd_lint_drawing.specs.declared.draw.Style.{Style}
 use Rattle.timefd_lint_drawing.specs.declared.finding.FindingKind.{FindingKind}
 use Rattle.timefd_lint_drawing.specs.declared.finding.FindingKind.TheVariants.{Fault, Further}
+use Rattle.timefd_lint_drawing.specs.declared.form.Format.{Format}
+use Rattle.timefd_lint_drawing.specs.declared.form.SentenceStyle.{SentenceStyle}
+use Rattle.timefd_lint_drawing.specs.declared.form.SentenceStyle.TheVariants.{Shown, Reported, Whole}
 use Rattle.timefd_lint_drawing.specs.declared.position.Origin.{Origin}
 use Rattle.timefd_lint_drawing.specs.declared.position.Position.{Position}
 use Rattle.timefd_lint_drawing.specs.declared.severity.FindingSeverity.{FindingSeverity}
 use Rattle.timefd_lint_drawing.specs.declared.severity.FindingSeverity.TheVariants.{Error}
-use Rattle.timefd_lint_drawing.specs.Findings.{Cut, Located, Said, drawn_at, is_further}
+use Rattle.timefd_lint_drawing.specs.Findings.{Cut, Located, Said, is_further}
+use Rattle.timefd_lint_drawing.specs.Forms.{drawn_at, sentences, shows_fault_end, shows_part_end}
 use Rattle.timefd_lint_drawing.specs.HelpText.{help_text}
 use Rattle.timefd_lint_drawing.specs.Positions.{reported_position, before, spanned, after_span}
 use Rattle.timefd_lint_drawing.specs.Sentence.{shown_sentence, reported_sentence}
@@ -31,22 +33,18 @@ cut_at text span = record {
   after = after_span span text;
 }
 
--- Where a part of a text is. Two forms have the position of what follows it; of that of a part of another language's format
--- only one.
+-- The position of what follows a part, if the form shows it: a part at fault, or one of another language's format.
+abbrev pub end_if : Bool → Format → Origin → Text → ℕ → Option Position
+end_if false format origin text at = None
+end_if true format origin text at = Some (reported_position format origin.line text at)
+
 abbrev pub fault_end : Format → Origin → Text → ℕ → Option Position
-fault_end Human origin text at = None
-fault_end Json origin text at = None
-fault_end Short origin text at = None
-fault_end Github origin text at = Some (reported_position Github origin.line text at)
-fault_end Sarif origin text at = Some (reported_position Sarif origin.line text at)
+fault_end format origin text at = end_if (shows_fault_end format) format origin text at
 
 abbrev pub part_end : Format → Origin → Text → ℕ → Option Position
-part_end Human origin text at = None
-part_end Json origin text at = None
-part_end Short origin text at = None
-part_end Github origin text at = Some (reported_position Github origin.line text at)
-part_end Sarif origin text at = None
+part_end format origin text at = end_if (shows_part_end format) format origin text at
 
+-- Where a part of a text is.
 abbrev pub part_at : Option Position → Format → Origin → Text → Span → Located
 part_at end format origin text span = record {
   file = origin.file.now;
@@ -56,14 +54,14 @@ part_at end format origin text span = record {
   line = Some (cut_at text span);
 }
 
--- A drawing and lines show a sentence in which a long word is cut, and for a further fault lines say in it what it was found
--- without. An object and a result have the whole sentence.
+-- For people a sentence shows only so much of a word, and may say what a further fault was found without. Programs read it whole.
+abbrev pub sentence_by : SentenceStyle → FindingKind → Diagnostic → Text
+sentence_by Shown kind d = shown_sentence (fault_of d.fault)
+sentence_by Reported kind d = reported_sentence (is_further kind) (fault_of d.fault)
+sentence_by Whole kind d = error_sentence d.fault
+
 abbrev pub sentence_in : Format → FindingKind → Diagnostic → Text
-sentence_in Human kind d = shown_sentence (fault_of d.fault)
-sentence_in Json kind d = error_sentence d.fault
-sentence_in Short kind d = reported_sentence (is_further kind) (fault_of d.fault)
-sentence_in Github kind d = reported_sentence (is_further kind) (fault_of d.fault)
-sentence_in Sarif kind d = error_sentence d.fault
+sentence_in format kind d = sentence_by (sentences format) kind d
 
 abbrev pub fault_said : Format → FindingKind → Diagnostic → Said
 fault_said format kind d = record {

@@ -4,6 +4,7 @@ use Rattle.std.specs.Str.{NonePass}
 use Rattle.timefd_lang_component.specs.Tree.{Text}
 use Rattle.timefd_lint_drawing.specs.declared.position.Position.{Position}
 use Rattle.timefd_lint_drawing.specs.declared.severity.FindingSeverity.{FindingSeverity}
+use Rattle.timefd_lint_drawing.specs.Findings.{Located, Said, described}
 use Rattle.timefd_lint_drawing.specs.Json.{number_field}
 use Rattle.timefd_lint_drawing.specs.Severities.{command}
 use Rattle.timefd_lint_drawing.specs.Shown.{safe}
@@ -46,6 +47,10 @@ abbrev pub annotation : FindingSeverity → Text → Text → Position → Optio
 annotation severity code file start end message =
     [] ++ command severity ++ property (codes " file=") (safe file) ++ line_fields start end ++ column_fields start end
     ++ property (codes ",title=") code ++ codes "::" ++ escaped_message message ++ codes "\n"
+
+-- a finding as an annotation, with the position of what follows the part
+abbrev pub github : Located → Said → Text
+github l s = annotation s.severity s.code l.file l.start l.end (described s)
 
 -- The bytes that end a message, and those that end a property.
 abbrev pub ends_message : ℕ → Bool

@@ -4,6 +4,8 @@ use Rattle.std.specs.Char.Escape.{encode_utf16}
 use Rattle.std.specs.Str.{IsUtf8, NonePass}
 use Rattle.timefd_lang_component.specs.Tree.{Text}
 use Rattle.timefd_lint_diagnosis.specs.declared.diagnostic.Span.{Span}
+use Rattle.timefd_lint_drawing.specs.Findings.{Located, Said, is_further}
+use Rattle.timefd_lint_drawing.specs.Severities.{word}
 use Rattle.timefd_lint_drawing.specs.Shown.{is_hidden, is_printable}
 
 abbrev pub hex_digit : ℕ → ℕ
@@ -71,6 +73,12 @@ object bytes further code file line column message help replacement severity =
     ++ field_if_any (codes ",\"help\":") help ++ number_field (codes ",\"line\":") line
     ++ text_field (codes ",\"message\":") message ++ field_if_any (codes ",\"replacement\":") replacement
     ++ text_field (codes ",\"severity\":") severity ++ start_field bytes ++ codes "}\n"
+
+-- a finding as an object
+abbrev pub json : Located → Said → Text
+json l s =
+    object l.bytes (is_further s.kind) s.code l.file l.start.line l.start.column s.message s.help s.replacement
+    (word s.severity)
 
 -- No character of a text in quotes is hidden.
 abbrev pub NoneIsHiddenInJson : Type 0

@@ -1,12 +1,12 @@
 -- Where a byte of a text is in its file, and how a line is cut at a span.
-use Rattle.std.specs.Prelude.{ℕ, ◌+◌, ◌-◌, ◌^◌, ◌&&◌, ◌==◌, Bool, false, min, [], ◌∷◌, take, drop, chars, length, nat_le, nat_lt, slice_index, if◌then◌else◌}
+use Rattle.std.specs.Prelude.{ℕ, ◌+◌, ◌-◌, ◌^◌, ◌&&◌, ◌==◌, Bool, true, false, min, [], ◌∷◌, take, drop, chars, length, nat_le, nat_lt, slice_index, if◌then◌else◌}
 use Rattle.std.specs.List.{before_first, count_by, list_any}
 use Rattle.unicode_width.specs.Width.{str_width}
 use Rattle.timefd_lang_component.specs.Tree.{Text}
 use Rattle.timefd_lint_diagnosis.specs.declared.diagnostic.Span.{Span}
-use Rattle.timefd_lint_drawing.specs.declared.draw.Format.{Format}
-use Rattle.timefd_lint_drawing.specs.declared.draw.Format.TheVariants.{Human, Json, Short, Github, Sarif}
+use Rattle.timefd_lint_drawing.specs.declared.form.Format.{Format}
 use Rattle.timefd_lint_drawing.specs.declared.position.Position.{Position}
+use Rattle.timefd_lint_drawing.specs.Forms.{counts_chars}
 use Rattle.timefd_lint_drawing.specs.Shown.{safe}
 
 -- Whether a byte continues a character that an earlier one begins.
@@ -55,13 +55,13 @@ column text at = str_width false (chars (safe (before at text))) + 1
 abbrev pub char_column : Text → ℕ → ℕ
 char_column text at = min (length (chars (before at text)) + 1) (2 ^ 64 - 1)
 
--- The column that each form reports: SARIF counts characters, and the others count columns of a terminal.
+-- The column that a form reports.
+abbrev pub column_by : Bool → Text → ℕ → ℕ
+column_by true text at = char_column text at
+column_by false text at = column text at
+
 abbrev pub reported_column : Format → Text → ℕ → ℕ
-reported_column Human text at = column text at
-reported_column Json text at = column text at
-reported_column Short text at = column text at
-reported_column Github text at = column text at
-reported_column Sarif text at = char_column text at
+reported_column format text at = column_by (counts_chars format) text at
 
 -- The position of an index, as the form reports it, if the text begins in line `first`.
 abbrev pub reported_position : Format → ℕ → Text → ℕ → Position

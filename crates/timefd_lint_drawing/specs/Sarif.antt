@@ -2,11 +2,11 @@
 use Rattle.std.specs.Prelude.{ℕ, ◌+◌, ◌-◌, ◌/◌, ◌%◌, Bool, true, false, ◌||◌, ◌==◌, [], ◌∷◌, ◌++◌, Option, None, Some, codes, drop, flat_map, nat_eq, nat_lt, if◌then◌else◌}
 use Rattle.std.specs.List.{starts_with}
 use Rattle.timefd_lang_component.specs.Tree.{Text}
+use Rattle.timefd_lint_drawing.specs.declared.position.Position.{Position}
+use Rattle.timefd_lint_drawing.specs.Findings.{Located, Said, described, is_further}
 use Rattle.timefd_lint_drawing.specs.Json.{text_field, number_field}
+use Rattle.timefd_lint_drawing.specs.Severities.{word}
 use Rattle.timefd_lint_drawing.specs.Shown.{is_between}
-
-abbrev pub with_help : Text → Text → Text
-with_help sentence help = sentence ++ (codes "\n" ++ help)
 
 -- Letters, digits and these characters are written as they are in a path.
 abbrev pub is_plain : ℕ → Bool
@@ -74,3 +74,33 @@ result further code file line column end_line end_column message help replacemen
 abbrev pub note_result : Text → Text → ℕ → ℕ → Text → Text → Text
 note_result code file line column message level =
     begun code file line column message level ++ codes "}}}]}\n"
+
+abbrev pub text_if_any : Option Text → Text
+text_if_any None = []
+text_if_any (Some text) = text
+
+abbrev pub help_text : Said → Text
+help_text s = text_if_any s.help
+
+abbrev pub fixes_of : Located → Position → Said → Text
+fixes_of l end s = fixes l.file l.start.line l.start.column end.line end.column (help_text s) s.replacement
+
+-- a result, with the end of the part if the form shows it
+abbrev pub part_result : Located → Position → Said → Text → Text
+part_result l end s message =
+    result (is_further s.kind) s.code l.file l.start.line l.start.column end.line end.column message (help_text s)
+    s.replacement (word s.severity)
+
+abbrev pub whole_result : Located → Said → Text → Text
+whole_result l s message =
+    note_result s.code l.file l.start.line l.start.column message (word s.severity)
+
+abbrev pub sarif_in : Option Position → Located → Said → Text → Text
+sarif_in None l s message = whole_result l s message
+sarif_in (Some end) l s message = part_result l end s message
+
+abbrev pub described_result : Located → Said → Text → Text
+described_result l s message = sarif_in l.end l s message
+
+abbrev pub sarif : Located → Said → Text
+sarif l s = described_result l s (described s)

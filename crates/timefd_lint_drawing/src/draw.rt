@@ -6,28 +6,14 @@ ghost use Rattle.timefd_lint_drawing.specs.Drawing as spec;
 ghost use Rattle.timefd_lint_drawing.specs.Findings.{located_of, said_of};
 
 use crate::counter::{Counter, none_counted};
-use crate::finding::{FindingKind, FindingLocation, FindingWords, drawn_at, is_further};
+use crate::finding::{FindingKind, FindingLocation, FindingWords, is_further};
+use crate::form::{Format, SentenceStyle, drawn_at};
 use crate::help_text::help_text;
 use crate::position::{Origin, Position, line_of, reported_position_from};
 use crate::sentence::{reported_sentence, shown_sentence};
 use crate::severity::FindingSeverity;
 use std::alloc::{AllocError, Global};
 use timefd_lint_diagnosis::{Diagnostic, Span, code_of};
-
-/// How a diagnostic is written.
-#[derive(Clone, Copy)]
-pub enum Format {
-    /// A drawing, like those of compilers.
-    Human,
-    /// A JSON object on a line.
-    Json,
-    /// `FILE:LINE:COLUMN: MESSAGE`, as editors read it.
-    Short,
-    /// An annotation on a line, as GitHub reads it in the output of a workflow step.
-    Github,
-    /// A SARIF result after a comma, on a line.
-    Sarif,
-}
 
 /// How diagnostics look.
 #[derive(Clone, Copy)]
@@ -182,13 +168,15 @@ fn fault_end(
     requires { IsCounted origin.line text.now from }
     ensures { IfOk result (λ end. end ≡ spec.fault_end format origin.entry text.now index) }
 {
-    match format {
-        Format::Human | Format::Json | Format::Short => Ok(None),
-        Format::Github | Format::Sarif => {
-            let end = reported_position_from(alloc, format, origin.line, text, from, index)?;
-            Ok(Some(end))
-        }
-    }
+    end_if(
+        alloc,
+        format.shows_fault_end(),
+        format,
+        origin,
+        text,
+        from,
+        index,
+    )
 }
 
 /// The position of what follows a part of a format of another language, if the form has it. An `Err` says that memory ran out.
@@ -203,13 +191,35 @@ pub fn part_end(
     requires { IsCounted origin.line text.now from }
     ensures { IfOk result (λ end. end ≡ spec.part_end format origin.entry text.now index) }
 {
-    match format {
-        Format::Human | Format::Json | Format::Short | Format::Sarif => Ok(None),
-        Format::Github => {
-            let end = reported_position_from(alloc, format, origin.line, text, from, index)?;
-            Ok(Some(end))
-        }
+    end_if(
+        alloc,
+        format.shows_part_end(),
+        format,
+        origin,
+        text,
+        from,
+        index,
+    )
+}
+
+// The position of what follows a part, if it is shown.
+fn end_if(
+    alloc: Global,
+    is_shown: bool,
+    format: Format,
+    origin: Origin<'_>,
+    text: &str,
+    from: Counter,
+    index: usize,
+) -> Result<Option<Position>, AllocError>
+    requires { IsCounted origin.line text.now from }
+    ensures { IfOk result (λ end. end ≡ spec.end_if is_shown format origin.entry text.now index) }
+{
+    if is_shown {
+        let end = reported_position_from(alloc, format, origin.line, text, from, index)?;
+        return Ok(Some(end));
     }
+    Ok(None)
 }
 
 /// Where a part of a text is. `from` says how far the lines of the text are counted. An `Err` says that memory ran out.
@@ -246,12 +256,10 @@ fn sentence_in(
     ensures { IfOk result (λ sentence. string_bytes sentence
         ≡ spec.sentence_in format kind diagnostic.now) }
 {
-    match format {
-        Format::Human => shown_sentence(alloc, &diagnostic.fault),
-        Format::Short | Format::Github => {
-            reported_sentence(alloc, is_further(kind), &diagnostic.fault)
-        }
-        Format::Json | Format::Sarif => format!(in alloc; "{}", diagnostic.fault),
+    match format.sentences() {
+        SentenceStyle::Shown => shown_sentence(alloc, &diagnostic.fault),
+        SentenceStyle::Reported => reported_sentence(alloc, is_further(kind), &diagnostic.fault),
+        SentenceStyle::Whole => format!(in alloc; "{}", diagnostic.fault),
     }
 }
 

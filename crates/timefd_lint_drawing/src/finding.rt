@@ -1,17 +1,11 @@
-//! What is found in a text or said of a file, and how it is written in the form that is asked for.
+//! What is found in a text or said of a file.
 
-ghost use Rattle.std.specs.Prelude.{◌≡◌, ◌≢◌, [], IfOk, option_map, string_bytes};
-ghost use Rattle.timefd_lint_drawing.specs.Findings.{located_of, said_of};
+ghost use Rattle.std.specs.Prelude.{◌≡◌, IfOk, option_map, string_bytes};
+ghost use Rattle.timefd_lint_drawing.specs.Findings.{said_of};
 ghost use Rattle.timefd_lint_drawing.specs.Findings as spec;
 
-use crate::draw::{Format, Style};
-use crate::github::annotation;
-use crate::human::human;
-use crate::json::object;
 use crate::position::{Line, Position};
-use crate::sarif::{result, with_help};
 use crate::severity::FindingSeverity;
-use crate::short::short;
 use std::alloc::{AllocError, Global};
 use timefd_lint_diagnosis::Span;
 
@@ -24,6 +18,8 @@ pub enum FindingKind {
     Further,
     /// A warning, or a part of a format of another language: the line for editors has its severity and its code.
     Labelled,
+    /// A note at something else than what is at fault. For people it has no code and no colours.
+    Aside,
 }
 
 /// The words of a finding.
@@ -54,45 +50,14 @@ pub struct FindingLocation<'f, 't> {
     pub line: Option<Line<'t>>,
 }
 
-/// A finding in the form that is asked for. An `Err` says that memory ran out.
-pub fn drawn_at(
-    alloc: Global,
-    style: Style,
-    location: FindingLocation<'_, '_>,
-    finding: FindingWords<'_, '_>,
-) -> Result<Vec<u8>, AllocError>
-    ensures exact { IfOk result (λ message. message.items
-        ≡ spec.drawn_at style (located_of location.entry) (said_of finding.entry)) }
-    ensures some { IfOk result (λ message. message.items ≢ []) }
+/// A sentence, and the help in a line after it. An `Err` says that memory ran out.
+pub fn with_help(alloc: Global, sentence: &str, help: &str) -> Result<String, AllocError>
+    ensures { IfOk result (λ text. string_bytes text ≡ spec.with_help sentence.now help.now) }
 {
-    written(alloc, style, location, finding)
+    format!(in alloc; "{sentence}\n{help}")
 }
 
-fn written(
-    alloc: Global,
-    style: Style,
-    location: FindingLocation<'_, '_>,
-    finding: FindingWords<'_, '_>,
-) -> Result<Vec<u8>, AllocError>
-    ensures { IfOk result (λ message. message.items
-        ≡ spec.drawn_at style (located_of location.entry) (said_of finding.entry)) }
-{
-    match style.format {
-        Format::Human => {
-            let drawing = human(alloc, style.is_colored, location, finding)?;
-            Ok(drawing.into_bytes())
-        }
-        Format::Short => {
-            let line = short(alloc, location, finding)?;
-            Ok(line.into_bytes())
-        }
-        Format::Json => object(alloc, location, finding),
-        Format::Github => annotation(alloc, location, finding),
-        Format::Sarif => result(alloc, location, finding),
-    }
-}
-
-/// The sentence, and the help in a line after it. An `Err` says that memory ran out.
+/// The sentence of a finding, and its help in a line after it. An `Err` says that memory ran out.
 pub fn described(alloc: Global, finding: FindingWords<'_, '_>) -> Result<String, AllocError>
     ensures { IfOk result (λ text. string_bytes text ≡ spec.described (said_of finding.entry)) }
 {
@@ -108,6 +73,6 @@ pub fn is_further(kind: FindingKind) -> bool
 {
     match kind {
         FindingKind::Further => true,
-        FindingKind::Fault | FindingKind::Labelled => false,
+        FindingKind::Fault | FindingKind::Labelled | FindingKind::Aside => false,
     }
 }

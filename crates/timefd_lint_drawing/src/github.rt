@@ -2,7 +2,6 @@
 
 ghost use Rattle.std.specs.Prelude.{◌≡◌, ◌++◌, IfOk, OnOk};
 ghost use Rattle.timefd_lint_drawing.specs.Findings.{located_of, said_of};
-ghost use Rattle.timefd_lint_drawing.specs.Findings as findings;
 ghost use Rattle.timefd_lint_drawing.specs.Github as spec;
 
 use crate::finding::{FindingLocation, FindingWords, described};
@@ -21,7 +20,7 @@ pub fn annotation(
     finding: FindingWords<'_, '_>,
 ) -> Result<Vec<u8>, AllocError>
     ensures { IfOk result (λ line. line.items
-        ≡ findings.github (located_of location.entry) (said_of finding.entry)) }
+        ≡ spec.github (located_of location.entry) (said_of finding.entry)) }
 {
     let file = safe(alloc, location.file)?;
     let message = described(alloc, finding)?;

@@ -3,7 +3,6 @@
 ghost use Rattle.std.specs.Prelude.{◌≡◌, ◌<◌, ◌++◌, decimal, flat_map, option_map, IfOk, OnOk};
 ghost use Rattle.std.specs.List.{list_all};
 ghost use Rattle.timefd_lint_drawing.specs.Findings.{located_of, said_of};
-ghost use Rattle.timefd_lint_drawing.specs.Findings as findings;
 ghost use Rattle.timefd_lint_drawing.specs.Json as spec;
 
 use crate::finding::{FindingLocation, FindingWords, is_further};
@@ -22,7 +21,7 @@ pub fn object(
     finding: FindingWords<'_, '_>,
 ) -> Result<Vec<u8>, AllocError>
     ensures { IfOk result (λ line. line.items
-        ≡ findings.json (located_of location.entry) (said_of finding.entry)) }
+        ≡ spec.json (located_of location.entry) (said_of finding.entry)) }
 {
     let mut out = Vec::with_capacity(alloc, ROOM)?;
     push_text(&mut out, "{\"code\":", finding.code)?;

@@ -5,6 +5,7 @@
 mod counter;
 mod draw;
 mod finding;
+mod form;
 mod github;
 pub mod help_text;
 mod human;
@@ -14,7 +15,7 @@ mod lines;
 pub mod people;
 mod position;
 mod rows;
-pub mod sarif;
+mod sarif;
 mod sentence;
 mod severity;
 mod short;
@@ -22,9 +23,9 @@ pub mod shown;
 mod source_line;
 
 pub use counter::{Counter, counted, none_counted};
-pub use draw::{Format, Style, drawn, drawn_all, drawn_all_from, note, note_as, part_at, part_end};
-pub use finding::{FindingKind, FindingLocation, FindingWords, drawn_at};
-pub use github::annotation;
+pub use draw::{Style, drawn, drawn_all, drawn_all_from, note, note_as, part_at, part_end};
+pub use finding::{FindingKind, FindingLocation, FindingWords, with_help};
+pub use form::{Format, SentenceStyle, drawn_at, push_form_names};
 pub use position::{
     Line, Origin, Position, char_position_from, line_of, position_from, position_of,
     reported_position_from,

@@ -5,7 +5,7 @@ ghost use Rattle.timefd_lint_drawing.specs.Counted.{IsCounted};
 ghost use Rattle.timefd_lint_drawing.specs.Positions as spec;
 
 use crate::counter::{Counter, line_at, none_counted};
-use crate::draw::Format;
+use crate::form::Format;
 use crate::shown::{char_count, columns};
 use std::alloc::{AllocError, Global};
 use timefd_lint_diagnosis::Span;
@@ -84,8 +84,7 @@ pub fn char_position_from(first: u64, text: &str, from: Counter, index: usize) -
     }
 }
 
-/// The position of the byte at an index, where the column is as the output format counts it: SARIF counts characters, and the
-/// others what a terminal shows. An `Err` says that memory ran out.
+/// The position of the byte at an index, where the column is as the form counts it: in characters, or as a terminal shows it. An `Err` says that memory ran out.
 #[tactic(auto, using(crate::proofs::PositionLemmas::position_of_both))]
 pub fn reported_position_from(
     alloc: Global,
@@ -98,16 +97,12 @@ pub fn reported_position_from(
     requires { IsCounted first text.now from }
     ensures { IfOk result (λ position. position ≡ spec.reported_position format first text.now index) }
 {
-    match format {
-        Format::Human | Format::Json | Format::Short | Format::Github => {
-            let Position { line, column } = position_from(alloc, first, text, from, index)?;
-            Ok(Position { line, column })
-        }
-        Format::Sarif => {
-            let Position { line, column } = char_position_from(first, text, from, index);
-            Ok(Position { line, column })
-        }
+    if format.counts_chars() {
+        let Position { line, column } = char_position_from(first, text, from, index);
+        return Ok(Position { line, column });
     }
+    let Position { line, column } = position_from(alloc, first, text, from, index)?;
+    Ok(Position { line, column })
 }
 
 /// The line of a text that a span begins in.

@@ -1,8 +1,7 @@
 //! SARIF 2.1.0 results, as code scanning and editors read them.
 
-ghost use Rattle.std.specs.Prelude.{◌≡◌, ◌<◌, ◌++◌, IfOk, OnOk, string_bytes};
+ghost use Rattle.std.specs.Prelude.{◌≡◌, ◌<◌, ◌++◌, IfOk, OnOk};
 ghost use Rattle.timefd_lint_drawing.specs.Findings.{located_of, said_of};
-ghost use Rattle.timefd_lint_drawing.specs.Findings as findings;
 ghost use Rattle.timefd_lint_drawing.specs.Sarif as spec;
 ghost use Rattle.timefd_lint_drawing.specs.Severities as severities;
 
@@ -12,13 +11,6 @@ use crate::position::Position;
 use crate::severity::word;
 use std::alloc::{AllocError, Global};
 
-/// A sentence, and the help in a line after it. An `Err` says that memory ran out.
-pub fn with_help(alloc: Global, sentence: &str, help: &str) -> Result<String, AllocError>
-    ensures { IfOk result (λ text. string_bytes text ≡ spec.with_help sentence.now help.now) }
-{
-    format!(in alloc; "{sentence}\n{help}")
-}
-
 /// A finding as a result after a comma. It has a fix if the part's end is known, and a word is near. An `Err` says that memory
 /// ran out.
 pub fn result(
@@ -27,7 +19,7 @@ pub fn result(
     finding: FindingWords<'_, '_>,
 ) -> Result<Vec<u8>, AllocError>
     ensures { IfOk result (λ reported. reported.items
-        ≡ findings.sarif (located_of location.entry) (said_of finding.entry)) }
+        ≡ spec.sarif (located_of location.entry) (said_of finding.entry)) }
 {
     let message = described(alloc, finding)?;
     described_result(alloc, location, finding, &message)
@@ -40,7 +32,7 @@ fn described_result(
     finding: FindingWords<'_, '_>,
     message: &str,
 ) -> Result<Vec<u8>, AllocError>
-    ensures { IfOk result (λ reported. reported.items ≡ findings.described_result (located_of location.entry)
+    ensures { IfOk result (λ reported. reported.items ≡ spec.described_result (located_of location.entry)
         (said_of finding.entry) message.now) }
 {
     match location.end {
@@ -88,7 +80,7 @@ fn part_result(
     finding: FindingWords<'_, '_>,
     message: &str,
 ) -> Result<Vec<u8>, AllocError>
-    ensures { IfOk result (λ reported. reported.items ≡ findings.part_result (located_of location.entry) end
+    ensures { IfOk result (λ reported. reported.items ≡ spec.part_result (located_of location.entry) end
         (said_of finding.entry) message.now) }
 {
     let fixes = fixes(alloc, location, end, finding)?;
@@ -109,7 +101,7 @@ fn whole_result(
     finding: FindingWords<'_, '_>,
     message: &str,
 ) -> Result<Vec<u8>, AllocError>
-    ensures { IfOk result (λ reported. reported.items ≡ findings.whole_result (located_of location.entry)
+    ensures { IfOk result (λ reported. reported.items ≡ spec.whole_result (located_of location.entry)
         (said_of finding.entry) message.now) }
 {
     let mut out = begun(alloc, location, finding, message)?;
@@ -125,7 +117,7 @@ fn fixes(
     finding: FindingWords<'_, '_>,
 ) -> Result<Vec<u8>, AllocError>
     ensures { IfOk result (λ field. field.items
-        ≡ findings.fixes (located_of location.entry) end (said_of finding.entry)) }
+        ≡ spec.fixes_of (located_of location.entry) end (said_of finding.entry)) }
 {
     match finding.replacement {
         Some(word) => fix(alloc, location, end, help_of(finding), word),
@@ -135,7 +127,7 @@ fn fixes(
 
 // The help, or nothing.
 fn help_of<'m>(finding: FindingWords<'_, 'm>) -> &'m str
-    ensures { result.now ≡ findings.help_text (said_of finding.entry) }
+    ensures { result.now ≡ spec.help_text (said_of finding.entry) }
 {
     match finding.help {
         Some(help) => help,

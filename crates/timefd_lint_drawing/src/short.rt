@@ -2,7 +2,7 @@
 
 ghost use Rattle.std.specs.Prelude.{◌≡◌, IfOk, option_map, string_bytes};
 ghost use Rattle.timefd_lint_drawing.specs.Findings.{located_of, said_of};
-ghost use Rattle.timefd_lint_drawing.specs.Findings as spec;
+ghost use Rattle.timefd_lint_drawing.specs.Short as spec;
 
 use crate::finding::{FindingKind, FindingLocation, FindingWords};
 use crate::position::Position;
@@ -13,7 +13,7 @@ use std::alloc::{AllocError, Global};
 // Room for the numbers of a line, and for what is between its parts.
 const ROOM: usize = 32;
 
-/// `FILE:LINE:COLUMN: SENTENCE`, or `FILE:LINE:COLUMN: warning[CODE]: SENTENCE`. An `Err` says that memory ran out.
+/// `FILE:LINE:COLUMN: SENTENCE`, where the sentence may begin as in `warning[CODE]: ` or `note: `. An `Err` says that memory ran out.
 pub fn short(
     alloc: Global,
     location: FindingLocation<'_, '_>,
@@ -30,6 +30,10 @@ pub fn short(
             let sentence = labelled(alloc, finding)?;
             short_line(alloc, location.file, location.start, &sentence)
         }
+        FindingKind::Aside => {
+            let sentence = aside(alloc, finding)?;
+            short_line(alloc, location.file, location.start, &sentence)
+        }
     }
 }
 
@@ -39,6 +43,14 @@ fn labelled(alloc: Global, finding: FindingWords<'_, '_>) -> Result<String, Allo
 {
     let (severity, code, message) = (word(finding.severity), finding.code, finding.message);
     format!(in alloc; "{severity}[{code}]: {message}")
+}
+
+// `note: SENTENCE`
+fn aside(alloc: Global, finding: FindingWords<'_, '_>) -> Result<String, AllocError>
+    ensures { IfOk result (λ text. string_bytes text ≡ spec.aside (said_of finding.entry)) }
+{
+    let (severity, message) = (word(finding.severity), finding.message);
+    format!(in alloc; "{severity}: {message}")
 }
 
 fn short_line(

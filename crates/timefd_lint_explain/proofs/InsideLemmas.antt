@@ -4,11 +4,11 @@ use Rattle.std.proofs.lemmas.Bool.{not-true}
 use Rattle.std.specs.Prelude.{⊤}
 use Rattle.timefd_lang_component.specs.declared.component.Component.{Component}
 use Rattle.timefd_lang_component.specs.Tree.{Text, Tree, component, literal, compound, optional, first, trees, pack}
-use Rattle.timefd_lang_fault.specs.Faults.{Fault, fault}
+use Rattle.timefd_parse.specs.Faults.{Fault, fault}
 use Rattle.timefd_language.specs.declared.description_version.DescriptionVersion.{DescriptionVersion}
 use Rattle.timefd_language.specs.declared.description_version.DescriptionVersion.TheVariants.{One, Two, Three}
 use Rattle.timefd_language.specs.Bytes.{right, same, is_white, is_version_three, ZeroOrMore}
-use Rattle.timefd_lang_fault.specs.Words.{expected_nested, expected_alternative, many_nested, optional_item, first_item}
+use Rattle.timefd_parse.specs.Words.{expected_nested, expected_alternative, many_nested, optional_item, first_item}
 use Rattle.timefd_language.specs.Grammar.{Pieces, no_pieces, run, escape, closing, bracket, Nested, no_nested, nested, ArePieces, AreNested, Spells, bracket_verdict, items, nested_text, parts_from, spelling}
 use Rattle.timefd_language.specs.Head.{Head, IsHead, head_text, placed}
 use Rattle.timefd_language.specs.Letters.{Flag, letters, item_of}

@@ -1,7 +1,7 @@
 -- One more word.
 use Rattle.std.proofs.Common.{◌≡◌, List, ◌∷◌, sym, ap, ◌∙◌}
 use denote.Ref.{Bor}
-use Rattle.timefd_lang_component.specs.Tree.{Text}
+use Rattle.timefd_parse.specs.Tree.{Text}
 use Rattle.timefd_lint_options.specs.declared.asked.ParsedSoFar.{ParsedSoFar}
 use Rattle.timefd_lint_options.specs.declared.asked.ArgumentStep.{ArgumentStep}
 use Rattle.timefd_lint_options.specs.declared.asked.ArgumentStep.TheVariants.{Next, Done}

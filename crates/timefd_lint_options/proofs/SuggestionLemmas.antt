@@ -4,7 +4,7 @@ use Rattle.std.specs.Prelude.{IfOk, IfSome, IsTrue, option_map}
 use Rattle.std.specs.List.{list_all}
 use Rattle.std.specs.declared.alloc.AllocError.{AllocError}
 use denote.Ref.{Bor}
-use Rattle.timefd_lang_component.specs.Tree.{Text}
+use Rattle.timefd_parse.specs.Tree.{Text}
 use Rattle.timefd_lint_diagnosis.specs.Nearest.{IsNearest}
 use Rattle.timefd_lint_options.specs.Suggestions.{long_names}
 use Rattle.timefd_lint_options.specs.Words.{is_option}

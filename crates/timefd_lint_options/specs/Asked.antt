@@ -1,7 +1,7 @@
 -- What the arguments ask for, read from the first to the last.
 use Rattle.std.specs.Prelude.{List, [], ◌∷◌, Option, Some, None, Result, Ok, Err}
 use denote.Ref.{Bor}
-use Rattle.timefd_lang_component.specs.Tree.{Text}
+use Rattle.timefd_parse.specs.Tree.{Text}
 use Rattle.timefd_lint_options.specs.declared.asked.AskedRun.{AskedRun}
 use Rattle.timefd_lint_options.specs.declared.asked.AskedRun.TheVariants as asks
 use Rattle.timefd_lint_options.specs.declared.asked.ParsedSoFar.{ParsedSoFar}

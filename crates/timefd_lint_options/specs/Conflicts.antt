@@ -1,11 +1,10 @@
 -- Settings that conflict, with each other or with the names of files.
 use Rattle.std.specs.Prelude.{Bool, true, false, ◌&&◌, ◌||◌, ◌==◌, not, Option, Some, None, is_some, if◌then◌else◌}
-use Rattle.timefd_lint_drawing.specs.declared.draw.Format.{Format}
-use Rattle.timefd_lint_drawing.specs.declared.draw.Format.TheVariants.{Human, Json, Short, Github, Sarif}
-use Rattle.timefd_language.specs.declared.description_version.DescriptionVersion.{DescriptionVersion}
-use Rattle.timefd_language.specs.declared.description_version.DescriptionVersion.TheVariants.{One, Two, Three}
-use Rattle.timefd_language.specs.declared.description_version.Language.{Language}
-use Rattle.timefd_language.specs.declared.description_version.Language.TheVariants as languages
+use Rattle.timefd_lint_drawing.specs.Forms.{is_drawn, is_log}
+use Rattle.timefd_parse.specs.DescriptionVersion.{DescriptionVersion}
+use Rattle.timefd_parse.specs.DescriptionVersion.TheVariants.{One, Two, Three}
+use Rattle.timefd_parse.specs.LanguageType.{Language}
+use Rattle.timefd_parse.specs.LanguageType.TheVariants as languages
 use Rattle.timefd_lint_options.specs.declared.error.Conflict.{Conflict}
 use Rattle.timefd_lint_options.specs.declared.error.Conflict.TheVariants.{ServesFiles, ServesAlone, ExplainUndrawn, LogRewritten, WriteWithoutVersion, PartialWithoutWrite, UnsafeWithoutFix, FixesRewritten, FixesWhole, FixesNoFile, FixesInput, NormalOfAnother, NoConversion, ExplainsOther, FixesOther, RewritesWarned, RewritesWhole, RewritesNoFile, RewritesInput}
 use Rattle.timefd_lint_options.specs.declared.names.NamedFiles.{NamedFiles}
@@ -13,20 +12,6 @@ use Rattle.timefd_lint_options.specs.declared.settings.RunSettings.{RunSettings}
 use Rattle.timefd_lint_options.specs.declared.wording.LineLanguage.{LineLanguage}
 use Rattle.timefd_lint_options.specs.declared.wording.LineLanguage.TheVariants.{Own, Other}
 use Rattle.timefd_lint_options.specs.Settings.{target}
-
-abbrev pub is_drawn : Format → Bool
-is_drawn Human = true
-is_drawn Json = false
-is_drawn Short = false
-is_drawn Github = false
-is_drawn Sarif = false
-
-abbrev pub is_log : Format → Bool
-is_log Human = false
-is_log Json = false
-is_log Short = false
-is_log Github = false
-is_log Sarif = true
 
 -- from version 1 to 2 or 3, and from each other language to 3
 abbrev pub is_rewritten : Language → DescriptionVersion → Bool

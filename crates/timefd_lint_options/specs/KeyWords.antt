@@ -1,7 +1,7 @@
 -- The keys that the arguments name.
 use Rattle.std.specs.Prelude.{List, [], ◌∷◌, ◌++◌}
 use denote.Ref.{Bor}
-use Rattle.timefd_lang_component.specs.Tree.{Text}
+use Rattle.timefd_parse.specs.Tree.{Text}
 use Rattle.timefd_lint_scan.specs.Keys.Keys.{Named, keys_in}
 use Rattle.timefd_lint_options.specs.declared.keys.Expected.{Expected}
 use Rattle.timefd_lint_options.specs.declared.keys.Expected.TheVariants as expects

@@ -1,7 +1,7 @@
 -- The words that name files.
 use Rattle.std.specs.Prelude.{Bool, true, false, ◌||◌, ◌+◌, List, [], ◌∷◌, length, if◌then◌else◌}
 use denote.Ref.{Bor}
-use Rattle.timefd_lang_component.specs.Tree.{Text}
+use Rattle.timefd_parse.specs.Tree.{Text}
 use Rattle.timefd_lint_options.specs.declared.names.NamedFiles.{NamedFiles}
 use Rattle.timefd_lint_options.specs.Words.{is_input}
 

@@ -1,7 +1,7 @@
 -- The arguments in order: first the options, each value a word of its own, and then the names of files.
 use Rattle.std.specs.Prelude.{ℕ, Bool, ◌==◌, List, [], ◌∷◌, ◌++◌, codes, length, if◌then◌else◌}
 use Rattle.std.specs.List.{before_first, after_first, position_or_len}
-use Rattle.timefd_lang_component.specs.Tree.{Text}
+use Rattle.timefd_parse.specs.Tree.{Text}
 use Rattle.timefd_lint_options.specs.declared.order.Next.{Next}
 use Rattle.timefd_lint_options.specs.declared.order.Next.TheVariants.{Any, Value, Name}
 use Rattle.timefd_lint_options.specs.declared.word.Word.{Word}

@@ -1,13 +1,14 @@
 -- What each option sets.
 use Rattle.std.specs.Prelude.{Bool, true, false, ◌||◌, Option, Some, None, is_some, option_map, Result, Ok, Err, if◌then◌else◌}
 use denote.Ref.{Bor}
-use Rattle.timefd_lang_component.specs.Tree.{Text}
-use Rattle.timefd_lint_drawing.specs.declared.draw.Format.TheVariants as formats
-use Rattle.timefd_language.specs.declared.description_version.DescriptionVersion.{DescriptionVersion}
-use Rattle.timefd_language.specs.declared.description_version.DescriptionVersion.TheVariants.{One, Two, Three}
-use Rattle.timefd_language.specs.Grammar.{is_empty}
-use Rattle.timefd_language.specs.declared.description_version.Language as languages_of
-use Rattle.timefd_language.specs.declared.description_version.Language.TheVariants as languages
+use Rattle.timefd_parse.specs.Tree.{Text}
+use Rattle.timefd_lint_drawing.specs.declared.form.Format.TheVariants as formats
+use Rattle.timefd_lint_drawing.specs.Forms as forms
+use Rattle.timefd_parse.specs.DescriptionVersion.{DescriptionVersion}
+use Rattle.timefd_parse.specs.DescriptionVersion.TheVariants.{One, Two, Three}
+use Rattle.timefd_parse.specs.Grammar.{is_empty}
+use Rattle.timefd_parse.specs.LanguageType as languages_of
+use Rattle.timefd_parse.specs.LanguageType.TheVariants as languages
 use Rattle.timefd_lint_options.specs.declared.error.OptionError.{OptionError}
 use Rattle.timefd_lint_options.specs.declared.error.OptionError.TheVariants.{NotAKey, NotAValue}
 use Rattle.timefd_lint_options.specs.declared.settings.Color.TheVariants as colors
@@ -18,7 +19,7 @@ use Rattle.timefd_lint_options.specs.declared.word.Flag.{Flag}
 use Rattle.timefd_lint_options.specs.declared.word.Flag.TheVariants.{Whole, Source, Explain, Normal, Fix, Unsafe, Write, Partial, Warn, Lsp, Quiet}
 use Rattle.timefd_lint_options.specs.declared.word.Valued.{Valued}
 use Rattle.timefd_lint_options.specs.declared.word.Valued.TheVariants.{Language, Format, Color, Comment, Key, To, Deny, Allow}
-use Rattle.timefd_lint_options.specs.Values.{wording_named, format_named, color_named, version_named}
+use Rattle.timefd_lint_options.specs.Values.{wording_named, color_named, version_named}
 use Rattle.timefd_lint_scan.specs.declared.keys.key.KeyFault.{KeyFault}
 use Rattle.timefd_lint_scan.specs.Keys.Keys.{key_fault}
 use Rattle.timefd_lang_warnings.specs.declared.levels.Level.{Level}
@@ -87,7 +88,7 @@ abbrev pub with_language : RunSettings → Text → Option RunSettings
 with_language s word = option_map (λ l. record s { language = l }) (wording_named word)
 
 abbrev pub with_format : RunSettings → Text → Option RunSettings
-with_format s word = option_map (λ f. record s { format = f }) (format_named word)
+with_format s word = option_map (λ f. record s { format = f }) (forms.named word)
 
 abbrev pub with_color : RunSettings → Text → Option RunSettings
 with_color s word = option_map (λ c. record s { color = c }) (color_named word)

@@ -1,6 +1,6 @@
 -- The options that are suggested for a word that isn't one.
 use Rattle.std.specs.Prelude.{codes, List, [], ◌∷◌}
-use Rattle.timefd_lang_component.specs.Tree.{Text}
+use Rattle.timefd_parse.specs.Tree.{Text}
 
 abbrev pub long_names : List Text
 long_names = codes "--language" ∷ codes "--format" ∷ codes "--color" ∷ codes "--comment" ∷ codes "--key"

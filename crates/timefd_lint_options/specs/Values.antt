@@ -1,12 +1,10 @@
 -- What the values of options name.
 use Rattle.std.specs.Prelude.{Option, Some, None, codes, bytes_eq, if◌then◌else◌}
-use Rattle.timefd_lang_component.specs.Tree.{Text}
-use Rattle.timefd_lint_drawing.specs.declared.draw.Format.{Format}
-use Rattle.timefd_lint_drawing.specs.declared.draw.Format.TheVariants.{Human, Json, Short, Github, Sarif}
-use Rattle.timefd_language.specs.declared.description_version.DescriptionVersion.{DescriptionVersion}
-use Rattle.timefd_language.specs.declared.description_version.DescriptionVersion.TheVariants.{One, Two, Three}
-use Rattle.timefd_language.specs.declared.description_version.Language.{Language}
-use Rattle.timefd_language.specs.declared.description_version.Language.TheVariants.{Version, Strftime}
+use Rattle.timefd_parse.specs.Tree.{Text}
+use Rattle.timefd_parse.specs.DescriptionVersion.{DescriptionVersion}
+use Rattle.timefd_parse.specs.DescriptionVersion.TheVariants.{One, Two, Three}
+use Rattle.timefd_parse.specs.LanguageType.{Language}
+use Rattle.timefd_parse.specs.LanguageType.TheVariants.{Version, Strftime}
 use Rattle.timefd_lang_dialect.specs.declared.dialect.Dialect.{Dialect}
 use Rattle.timefd_lang_dialect.specs.Dialects.{named}
 use Rattle.timefd_lint_options.specs.declared.settings.Color.{Color}
@@ -41,15 +39,6 @@ wording_by None other = other
 -- a language of `time`, or else a dialect
 abbrev pub wording_named : Text → Option LineLanguage
 wording_named word = wording_by (language_named word) (dialect_named word)
-
-abbrev pub format_named : Text → Option Format
-format_named word =
-    if bytes_eq word (codes "human") then Some Human
-    else if bytes_eq word (codes "json") then Some Json
-    else if bytes_eq word (codes "short") then Some Short
-    else if bytes_eq word (codes "github") then Some Github
-    else if bytes_eq word (codes "sarif") then Some Sarif
-    else None
 
 abbrev pub color_named : Text → Option Color
 color_named word =

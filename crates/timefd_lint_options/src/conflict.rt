@@ -7,7 +7,6 @@ use crate::error::Conflict;
 use crate::names::NamedFiles;
 use crate::settings::{RunSettings, target};
 use crate::wording::LineLanguage;
-use timefd_lint_drawing::Format;
 use timefd_parse::{DescriptionVersion, Language};
 
 /// The conflict between the settings of a run over these files, if there is one.
@@ -17,7 +16,7 @@ pub fn conflict(settings: RunSettings<'_>, names: NamedFiles) -> Option<Conflict
     if settings.serves {
         return serving_conflict(settings, names);
     }
-    if settings.explains && !is_drawn(settings.format) {
+    if settings.explains && !settings.format.is_drawn() {
         return Some(Conflict::ExplainUndrawn);
     }
     if settings.is_partial && !settings.writes {
@@ -26,7 +25,7 @@ pub fn conflict(settings: RunSettings<'_>, names: NamedFiles) -> Option<Conflict
     if settings.is_unsafe && !settings.fixes {
         return Some(Conflict::UnsafeWithoutFix);
     }
-    if is_log(settings.format) && (settings.fixes || target(settings).is_some()) {
+    if settings.format.is_log() && (settings.fixes || target(settings).is_some()) {
         return Some(Conflict::LogRewritten);
     }
     if settings.fixes {
@@ -60,7 +59,7 @@ fn looks_at_files(settings: RunSettings<'_>) -> bool
         || settings.is_source
         || settings.explains
         || settings.comment.is_some()
-        || !is_drawn(settings.format)
+        || !settings.format.is_drawn()
 }
 
 // Whether the settings say how files are rewritten.
@@ -161,25 +160,6 @@ fn conversion_conflict(language: Language, version: DescriptionVersion) -> Optio
         None
     } else {
         Some(Conflict::NoConversion)
-    }
-}
-
-fn is_drawn(format: Format) -> bool
-    ensures { result ≡ spec.is_drawn format }
-{
-    match format {
-        Format::Human => true,
-        Format::Json | Format::Short | Format::Github | Format::Sarif => false,
-    }
-}
-
-/// Whether the output in a format is one document, which can't show changes.
-pub fn is_log(format: Format) -> bool
-    ensures { result ≡ spec.is_log format }
-{
-    match format {
-        Format::Sarif => true,
-        Format::Human | Format::Json | Format::Short | Format::Github => false,
     }
 }
 

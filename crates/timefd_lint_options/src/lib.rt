@@ -19,7 +19,7 @@ mod wording;
 pub mod config;
 
 pub use asked::{AskedRun, Options, options_of};
-pub use conflict::{is_log, lines_conflict};
+pub use conflict::lines_conflict;
 pub use error::{Conflict, OptionError};
 pub use keys::keys_of;
 pub use order::ordered;

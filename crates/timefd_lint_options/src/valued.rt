@@ -5,10 +5,11 @@ ghost use Rattle.timefd_lint_options.specs.Settings as spec;
 
 use crate::error::OptionError;
 use crate::settings::RunSettings;
-use crate::values::{color_named, format_named, version_named};
+use crate::values::{color_named, version_named};
 use crate::word::Valued;
 use crate::wording::wording_named;
 use timefd_lang_warnings::{Level, Warning};
+use timefd_lint_drawing::Format;
 use timefd_lint_scan::keys::key_fault;
 
 /// The settings with the value of an option. `NotAValue` or `NotAKey` if the option doesn't take the value.
@@ -50,7 +51,7 @@ fn with_language<'a>(settings: RunSettings<'a>, value: &str) -> Option<RunSettin
 fn with_format<'a>(settings: RunSettings<'a>, value: &str) -> Option<RunSettings<'a>>
     ensures { result ≡ spec.with_format settings.entry value.now }
 {
-    match format_named(value) {
+    match Format::named(value) {
         Some(format) => Some(RunSettings { format, ..settings }),
         None => None,
     }

@@ -4,7 +4,6 @@ ghost use Rattle.std.specs.Prelude.{◌≡◌};
 ghost use Rattle.timefd_lint_options.specs.Values as spec;
 
 use crate::settings::Color;
-use timefd_lint_drawing::Format;
 use timefd_parse::{DescriptionVersion, Language};
 
 /// The language that a word names.
@@ -16,20 +15,6 @@ pub fn language_named(word: &str) -> Option<Language>
         "2" => Some(Language::Version(DescriptionVersion::Two)),
         "3" => Some(Language::Version(DescriptionVersion::Three)),
         "strftime" => Some(Language::Strftime),
-        _ => None,
-    }
-}
-
-/// The form that a word names.
-pub fn format_named(word: &str) -> Option<Format>
-    ensures { result ≡ spec.format_named word.now }
-{
-    match word {
-        "human" => Some(Format::Human),
-        "json" => Some(Format::Json),
-        "short" => Some(Format::Short),
-        "github" => Some(Format::Github),
-        "sarif" => Some(Format::Sarif),
         _ => None,
     }
 }

@@ -4,7 +4,7 @@ use Rattle.std.proofs.KnownBytes.{Appends-nil, Appends-trans}
 use Rattle.std.proofs.lemmas.List.{drop_all, drop_more, drop-map, get_or-drop, length-drop, length-map, map_more, take_min, take_rest, take-map}
 use Rattle.std.specs.Io.KnownBytes.{Appends}
 use Rattle.std.specs.List.{list_any}
-use Rattle.timefd_lang_component.specs.Tree.{Text}
+use Rattle.timefd_parse.specs.Tree.{Text}
 use Rattle.timefd_lint_rewrite.specs.Diffs.{AreSideBySide, Line, WritesDiff, added, begins, body, changes, end_from, file_header, hunk, hunk_at, hunk_header, hunks_from, is_shown, line_of, lines_of, marked, pending, range, shown}
 use Rattle.timefd_lint_rewrite.specs.declared.pairs.Pair.{Pair}
 

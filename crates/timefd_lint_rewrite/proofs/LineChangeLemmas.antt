@@ -1,17 +1,17 @@
 -- What lines are changed to.
 use Rattle.std.proofs.Common.{ℕ, ◌≡◌, subst}
 use Rattle.std.specs.Prelude.{string_bytes}
-use Rattle.timefd_lang_component.specs.Tree.{Text}
+use Rattle.timefd_parse.specs.Tree.{Text}
 use Rattle.timefd_lang_dialect.specs.declared.dialect.Dialect.{Dialect}
 use Rattle.timefd_lang_dialect.specs.declared.error.RefusedPart.{RefusedPart}
 use Rattle.timefd_lang_dialect.specs.declared.reading.Converted.{Converted}
 use Rattle.timefd_lang_dialect.specs.Answers.{IsConverted as IsConvertedTo}
 use Rattle.timefd_lang_dialect.specs.Items.{IsSpelledBy}
 use Rattle.timefd_lang_dialect.specs.Reading.{RefusedAt}
-use Rattle.timefd_lang_fault.specs.Faults.{fault_of}
-use Rattle.timefd_lang_fault.specs.declared.invalid_format_description.InvalidFormatDescription.{InvalidFormatDescription}
-use Rattle.timefd_lang_fault.specs.declared.borrowed_parse_error.ParseError.{ParseError}
-use Rattle.timefd_lang_fault.specs.declared.borrowed_parse_error.ParseError.TheVariants.{Invalid}
+use Rattle.timefd_parse.specs.Faults.{fault_of}
+use Rattle.timefd_parse.specs.InvalidFormatDescription.{InvalidFormatDescription}
+use Rattle.timefd_parse.specs.ParseError.{ParseError}
+use Rattle.timefd_parse.specs.ParseError.TheVariants.{Invalid}
 use Rattle.timefd_lint_rewrite.specs.declared.layout.Layout.{Layout}
 use Rattle.timefd_lint_rewrite.specs.declared.layout.Layout.TheVariants.{Least, Normal, Fixed}
 use Rattle.timefd_lint_rewrite.specs.declared.line_change.LineChange.TheVariants.{Own, Other}

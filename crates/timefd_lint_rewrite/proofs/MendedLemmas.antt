@@ -1,7 +1,7 @@
 -- One step of mending, and a text whose fault has no allowed fix.
 use Rattle.std.proofs.Common.{◌≡◌, refl, subst, sym}
-use Rattle.timefd_lang_component.specs.Tree.{Text}
-use Rattle.timefd_lang_fault.specs.Faults.{Fault, fault_of}
+use Rattle.timefd_parse.specs.Tree.{Text}
+use Rattle.timefd_parse.specs.Faults.{Fault, fault_of}
 use Rattle.timefd_language.specs.Grammar.{nesting_limit}
 use Rattle.timefd_language.specs.declared.description_version.Language.{Language}
 use Rattle.timefd_parse.specs.Language.{FaultIn}

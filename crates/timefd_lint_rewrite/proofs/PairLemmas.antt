@@ -2,7 +2,7 @@
 use Rattle.std.proofs.Common.{ℕ, suc, ◌≡◌, ◌≢◌, ◌<◌, ◌≤◌, ◌+◌, ◌-◌, ◌==◌, ◌++◌, ◌∷◌, Bool, true, false, [], List, drop, length, map, take, refl, sym, ap, subst, ◌∙◌, arith, eqb-true}
 use Rattle.std.proofs.lemmas.List.{map_push}
 use Rattle.std.specs.Io.BufRead.{drop_through, take_through}
-use Rattle.timefd_lang_component.specs.Tree.{Text}
+use Rattle.timefd_parse.specs.Tree.{Text}
 use Rattle.timefd_lint_rewrite.specs.Diffs.{AreSideBySide, AreUpTo, Line, line_of, lines_of}
 use Rattle.timefd_lint_rewrite.specs.declared.pairs.Pair.{Pair}
 

@@ -11,7 +11,7 @@ use Rattle.std.proofs.lemmas.List.{take_rest}
 use Rattle.std.proofs.lemmas.Bool.{true≢false}
 use Rattle.std.proofs.lemmas.Bool.Decides.{Decides-eqb}
 use denote.Ref.{Bor}
-use Rattle.timefd_lang_component.specs.Tree.{Text}
+use Rattle.timefd_parse.specs.Tree.{Text}
 use Rattle.timefd_lint_rewrite.specs.declared.counts.Counts.{Counts}
 use Rattle.timefd_lint_rewrite.specs.declared.counts.LineOutcome.{LineOutcome}
 use Rattle.timefd_lint_rewrite.specs.declared.counts.LineOutcome.TheVariants.{PassedOver, Same, Rewritten, Refused, NotText, NotALine}

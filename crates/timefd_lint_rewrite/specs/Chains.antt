@@ -1,10 +1,10 @@
 -- Texts that come from one another, by the cure of one fault after another.
 use Rattle.std.specs.Prelude.{ℕ, zero, suc, ◌≡◌, ◌≤◌, List, ◌⊎◌, ⊤}
-use Rattle.timefd_lang_component.specs.Tree.{Text, Tree}
-use Rattle.timefd_lang_fault.specs.Faults.{Fault, fault_of}
+use Rattle.timefd_parse.specs.Tree.{Text, Tree}
+use Rattle.timefd_parse.specs.Faults.{Fault, fault_of}
 use Rattle.timefd_language.specs.Grammar.{nesting_limit}
-use Rattle.timefd_lang_fault.specs.declared.borrowed_parse_error.ParseError.{ParseError}
-use Rattle.timefd_lang_fault.specs.declared.borrowed_parse_error.ParseError.TheVariants.{Invalid, Memory}
+use Rattle.timefd_parse.specs.ParseError.{ParseError}
+use Rattle.timefd_parse.specs.ParseError.TheVariants.{Invalid, Memory}
 use Rattle.timefd_language.specs.declared.description_version.Language.{Language}
 use Rattle.timefd_parse.specs.Language.{FaultIn, SpellsIn}
 use Rattle.timefd_lint_diagnosis.specs.declared.diagnostic.Diagnostic.{Diagnostic}

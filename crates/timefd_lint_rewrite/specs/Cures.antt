@@ -1,15 +1,15 @@
 -- The cure of a fault.
 use Rattle.std.specs.Prelude.{ℕ, ◌≡◌, ◌++◌, codes, Option, Some, None, MatchOption, take, drop, nat_lt, ⊤, ◌⊎◌, if◌then◌else◌}
 use Rattle.std.specs.Str.{IsCharBoundary}
-use Rattle.timefd_lang_component.specs.Tree.{Text}
-use Rattle.timefd_lang_fault.specs.Faults.{fault_of}
+use Rattle.timefd_parse.specs.Tree.{Text}
+use Rattle.timefd_parse.specs.Faults.{fault_of}
 use Rattle.timefd_language.specs.declared.description_version.Language.{Language}
 use Rattle.timefd_language.specs.declared.description_version.Language.TheVariants.{Version, Strftime}
-use Rattle.timefd_lang_fault.specs.declared.code.Code.{Code}
-use Rattle.timefd_lang_fault.specs.declared.code.Code.TheVariants.{UnclosedBracket, UnknownName, InvalidModifier, MissingName, MissingModifier, InvalidEscape, UnescapedBracket, MissingSpace, MissingDescription, MissingAlternative, NestedTooDeep, SeveralDescriptions, OptionalItem, FirstItem, UnsupportedFlag, UnsupportedLetter, NestedInComponent, DuplicateModifier, RefusedModifier}
+use Rattle.timefd_parse.specs.Code.{Code}
+use Rattle.timefd_parse.specs.Code.TheVariants.{UnclosedBracket, UnknownName, InvalidModifier, MissingName, MissingModifier, InvalidEscape, UnescapedBracket, MissingSpace, MissingDescription, MissingAlternative, NestedTooDeep, SeveralDescriptions, OptionalItem, FirstItem, UnsupportedFlag, UnsupportedLetter, NestedInComponent, DuplicateModifier, RefusedModifier}
 use Rattle.timefd_lint_diagnosis.specs.declared.diagnostic.Diagnostic.{Diagnostic}
 use Rattle.timefd_lint_diagnosis.specs.declared.help.Help.{Help}
-use Rattle.timefd_lang_fault.specs.Codes.{code_of}
+use Rattle.timefd_parse.specs.Codes.{code_of}
 use Rattle.timefd_lint_diagnosis.specs.Helps.{nearest_in}
 use Rattle.timefd_lint_rewrite.specs.declared.cure.Fixes.{Fixes}
 use Rattle.timefd_lint_rewrite.specs.declared.cure.Fixes.TheVariants.{Sure, All}

@@ -1,9 +1,9 @@
 -- What a text is converted to in a layout, or mended to.
 use Rattle.std.specs.Prelude.{◌≡◌, List}
-use Rattle.timefd_lang_component.specs.Tree.{Text, Tree}
-use Rattle.timefd_lang_fault.specs.Faults.{Fault}
+use Rattle.timefd_parse.specs.Tree.{Text, Tree}
+use Rattle.timefd_parse.specs.Faults.{Fault}
 use Rattle.timefd_language.specs.declared.description_version.DescriptionVersion.TheVariants.{Three}
-use Rattle.timefd_lang_fault.specs.declared.borrowed_parse_error.ParseError.{ParseError}
+use Rattle.timefd_parse.specs.ParseError.{ParseError}
 use Rattle.timefd_language.specs.Grammar.{Spells, nesting_limit}
 use Rattle.timefd_parse.specs.Language.{FaultIn, IsAssignedIn}
 use Rattle.timefd_lang_convert.specs.declared.conversion.Conversion.{Conversion}

@@ -1,11 +1,11 @@
 -- What lines are changed to.
 use Rattle.std.specs.Prelude.{ℕ, ◌≡◌, List}
-use Rattle.timefd_lang_component.specs.Tree.{Text}
+use Rattle.timefd_parse.specs.Tree.{Text}
 use Rattle.timefd_lang_dialect.specs.declared.dialect.Dialect.{Dialect}
 use Rattle.timefd_lang_dialect.specs.declared.reason.Reason.{Reason}
 use Rattle.timefd_lang_dialect.specs.Items.{IsSpelledBy}
 use Rattle.timefd_lang_dialect.specs.Reading.{Piece, Means, RefusedAt, text_of}
-use Rattle.timefd_lang_fault.specs.Faults.{Fault}
+use Rattle.timefd_parse.specs.Faults.{Fault}
 use Rattle.timefd_lint_rewrite.specs.declared.line_change.LineChange.{LineChange}
 use Rattle.timefd_lint_rewrite.specs.declared.line_change.LineChange.TheVariants.{Own, Other}
 use Rattle.timefd_lint_rewrite.specs.Layouts.{IsConverted, IsRefusedFor}

@@ -3,7 +3,7 @@ use Rattle.std.specs.Prelude.{◌≡◌, ◌≢◌, Bool, true, false, ◌||◌,
 use Rattle.std.specs.Io.BufRead.{ends_with_byte, strip_last, take_through, drop_through}
 use Rattle.std.specs.List.{list_any, starts_with}
 use denote.Ref.{Bor}
-use Rattle.timefd_lang_component.specs.Tree.{Text}
+use Rattle.timefd_parse.specs.Tree.{Text}
 use Rattle.timefd_language.specs.Grammar.{is_empty}
 
 -- A line without its newline, and without a carriage return in front of it.

@@ -2,10 +2,10 @@
 
 ghost use Rattle.std.specs.Prelude.{◌≡◌, IfOk, IfSome, List, None, string_bytes};
 ghost use Rattle.std.specs.Result.{IfErr};
-ghost use Rattle.timefd_lang_component.specs.Tree.{Tree};
-ghost use Rattle.timefd_lang_fault.specs.Faults.{Fault};
+ghost use Rattle.timefd_parse.specs.Tree.{Tree};
+ghost use Rattle.timefd_parse.specs.Faults.{Fault};
 ghost use Rattle.timefd_language.specs.Grammar.{nesting_limit};
-ghost use Rattle.timefd_lang_fault.specs.Reported.{MemoryAlone};
+ghost use Rattle.timefd_parse.specs.Reported.{MemoryAlone};
 ghost use Rattle.timefd_parse.specs.Language.{FaultIn, IsAssignedIn, SpellsIn};
 ghost use Rattle.timefd_lint_rewrite.specs.Chains.{IsFixed, IsLeftOf, IsMended, IsUnmendedOf};
 

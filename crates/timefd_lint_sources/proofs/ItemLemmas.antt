@@ -2,7 +2,7 @@
 use Rattle.std.proofs.Common.{ℕ, ◌≡◌, true, List, [], ◌∷◌, ◌++◌, refl, sym, ap, subst, ◌∙◌, arith, true≢false}
 use Rattle.std.specs.Prelude.{Option, None, Some, MatchOption}
 use Rattle.std.specs.Borrow.{Bor}
-use Rattle.timefd_lang_component.specs.Tree.{Text}
+use Rattle.timefd_parse.specs.Tree.{Text}
 use Rattle.timefd_language.proofs.Before.{head_before-is}
 use Rattle.timefd_language.specs.Bytes.{backslash, left, right, is_run_byte, is_white, ZeroOrMore}
 use Rattle.timefd_language.specs.Cut.{IsCut, BeginsWith}

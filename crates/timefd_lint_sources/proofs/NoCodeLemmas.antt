@@ -4,7 +4,7 @@ use Rattle.std.proofs.Math.Seq.{take-length}
 use Rattle.std.specs.Prelude.{IfOk, option_map}
 use Rattle.std.specs.declared.alloc.Global.{Global}
 use Rattle.std.specs.declared.vec.Vec.{Vec}
-use Rattle.timefd_lang_component.specs.Tree.{Text}
+use Rattle.timefd_parse.specs.Tree.{Text}
 use Rattle.timefd_lint_diagnosis.specs.declared.diagnostic.Span.{Span}
 use Rattle.timefd_lint_diagnosis.specs.Nearest.{IsNearest}
 use Rattle.timefd_lint_drawing.specs.declared.draw.Style.{Style}

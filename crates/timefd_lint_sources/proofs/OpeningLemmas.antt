@@ -1,12 +1,12 @@
 -- Items that are opened, one after another.
 use Rattle.std.proofs.Common.{ℕ, zero, suc, ◌≡◌, ◌+◌, ◌-◌, ◌<◌, [], ◌∷◌, ◌++◌, length, take, drop, inl, inr, refl, sym, ap, subst, ◌∙◌, arith}
 use Rattle.std.specs.Prelude.{Option, None, Some, MatchOption, ⊤}
-use Rattle.timefd_lang_component.specs.Tree.{Text}
-use Rattle.timefd_lang_fault.specs.BorrowedFaults.{IsBorrowed, IsBorrowedOf, to_borrowed_fault}
-use Rattle.timefd_lang_fault.specs.declared.borrowed_fault.BorrowedFault.{BorrowedFault}
-use Rattle.timefd_lang_fault.specs.declared.borrowed_parse_error.BorrowedParseError.{BorrowedParseError}
-use Rattle.timefd_lang_fault.specs.declared.borrowed_parse_error.BorrowedParseError.TheVariants.{Invalid}
-use Rattle.timefd_lang_fault.specs.Faults.{Fault}
+use Rattle.timefd_parse.specs.Tree.{Text}
+use Rattle.timefd_parse.specs.BorrowedFaults.{IsBorrowed, IsBorrowedOf, to_borrowed_fault}
+use Rattle.timefd_parse.specs.BorrowedFault.{BorrowedFault}
+use Rattle.timefd_parse.specs.BorrowedParseError.{BorrowedParseError}
+use Rattle.timefd_parse.specs.BorrowedParseError.TheVariants.{Invalid}
+use Rattle.timefd_parse.specs.Faults.{Fault}
 use Rattle.timefd_language.specs.declared.description_version.DescriptionVersion.{DescriptionVersion}
 use Rattle.timefd_lint_sources.specs.Items.{IsAllOpened, IsItem, IsItemFault, IsOpened, opened}
 

@@ -3,14 +3,14 @@ use Rattle.std.specs.Prelude.{ℕ, ◌≡◌, ◌+◌, ◌-◌, Bool, true, fals
 use Rattle.std.specs.Io.Iter.{u64_saturate}
 use Rattle.std.specs.declared.alloc.Global.{Global}
 use Rattle.std.specs.declared.vec.Vec.{Vec}
-use Rattle.timefd_lang_component.specs.Tree.{Text}
+use Rattle.timefd_parse.specs.Tree.{Text}
 use Rattle.timefd_lint_diagnosis.specs.declared.diagnostic.Diagnostic.{Diagnostic}
 use Rattle.timefd_lang_dialect.specs.declared.error.RefusedPart.{RefusedPart}
 use Rattle.timefd_lang_dialect.specs.declared.trapping.Found.{Found}
 use Rattle.timefd_lang_dialect.specs.Reasons as reasons
 use Rattle.timefd_lang_dialect.specs.TrapWords as traps
-use Rattle.timefd_lang_fault.specs.Codes as faults
-use Rattle.timefd_lang_fault.specs.Faults.{fault_of}
+use Rattle.timefd_parse.specs.Codes as faults
+use Rattle.timefd_parse.specs.Faults.{fault_of}
 use Rattle.timefd_lint_scan.specs.declared.description.SourceDescription.{SourceDescription}
 use Rattle.timefd_lang_warnings.specs.declared.levels.Level.TheVariants.{Allowed, Warned, Denied}
 use Rattle.timefd_lang_warnings.specs.declared.levels.Levels.{Levels}

@@ -1,12 +1,13 @@
 -- A message on a word in a comment.
 use Rattle.std.specs.Prelude.{None, Some}
-use Rattle.timefd_lang_component.specs.Tree.{Text}
+use Rattle.timefd_parse.specs.Tree.{Text}
 use Rattle.timefd_lint_diagnosis.specs.declared.diagnostic.Span.{Span}
-use Rattle.timefd_lint_drawing.specs.declared.draw.Format.{Format}
+use Rattle.timefd_lint_drawing.specs.declared.form.Format.{Format}
 use Rattle.timefd_lint_drawing.specs.declared.draw.Style.{Style}
 use Rattle.timefd_lint_drawing.specs.declared.severity.FindingSeverity.TheVariants.{Error}
 use Rattle.timefd_lint_drawing.specs.Drawing.{cut_at, note_said}
-use Rattle.timefd_lint_drawing.specs.Findings.{Located, drawn_at}
+use Rattle.timefd_lint_drawing.specs.Findings.{Located}
+use Rattle.timefd_lint_drawing.specs.Forms.{drawn_at}
 use Rattle.timefd_lint_drawing.specs.Positions.{reported_position}
 use Rattle.timefd_lint_sources.specs.declared.reported.SourceText.{SourceText}
 

@@ -1,48 +1,45 @@
 -- The note at a call that takes a description by name.
-use Rattle.std.specs.Prelude.{ℕ, ◌++◌, codes, decimal, Option, Some, None, []}
-use Rattle.timefd_lang_component.specs.Tree.{Text}
-use Rattle.timefd_lint_drawing.specs.declared.draw.Format.{Format}
-use Rattle.timefd_lint_drawing.specs.declared.draw.Format.TheVariants.{Human, Json, Short, Github, Sarif}
+use Rattle.std.specs.Prelude.{ℕ, Bool, true, false, codes, Option, Some, None, []}
+use Rattle.timefd_parse.specs.Tree.{Text}
 use Rattle.timefd_lint_drawing.specs.declared.draw.Style.{Style}
-use Rattle.timefd_lint_drawing.specs.declared.position.Position.{Position}
+use Rattle.timefd_lint_drawing.specs.declared.finding.FindingKind.TheVariants.{Aside}
+use Rattle.timefd_lint_drawing.specs.declared.form.Format.{Format}
 use Rattle.timefd_lint_drawing.specs.declared.severity.FindingSeverity.TheVariants.{Note}
-use Rattle.timefd_lint_drawing.specs.Github.{annotation}
-use Rattle.timefd_lint_drawing.specs.Positions.{column, line_number}
-use Rattle.timefd_lint_drawing.specs.Shown.{safe}
+use Rattle.timefd_lint_drawing.specs.Findings.{Located, Said}
+use Rattle.timefd_lint_drawing.specs.Forms.{drawn_at, shows_asides}
+use Rattle.timefd_lint_drawing.specs.Positions.{reported_position}
 use Rattle.timefd_lint_scan.specs.declared.description.SourceDescription.{SourceDescription}
 use Rattle.timefd_lint_sources.specs.declared.reported.SourceText.{SourceText}
 
-abbrev pub code : Text
-code = codes "call"
+abbrev pub said : Said
+said = record {
+  severity = Note;
+  kind = Aside;
+  code = codes "call";
+  message = codes "this call takes the text by its name";
+  help = None;
+  replacement = None;
+}
 
-abbrev pub message : Text
-message = codes "this call takes the text by its name"
+abbrev pub located : Format → SourceText → ℕ → Located
+located format s at = record {
+  file = s.file.now;
+  start = reported_position format 1 s.text.now at;
+  end = None;
+  bytes = None;
+  line = None;
+}
 
--- `FILE:LINE:COLUMN`
-abbrev pub position_text : Text → ℕ → ℕ → Text
-position_text file line column =
-    safe file ++ (codes ":" ++ (decimal line ++ (codes ":" ++ decimal column)))
+abbrev pub shown_note : Style → SourceText → ℕ → Text
+shown_note style s at = drawn_at style (located style.format s at) said
 
-abbrev pub human : Text → ℕ → ℕ → Text
-human file line column =
-    codes "note: " ++ (message ++ (codes "\n --> " ++ (position_text file line column ++ codes "\n\n")))
+abbrev pub note_if : Bool → Style → SourceText → ℕ → Text
+note_if false style s at = []
+note_if true style s at = shown_note style s at
 
-abbrev pub short : Text → ℕ → ℕ → Text
-short file line column = position_text file line column ++ (codes ": note: " ++ (message ++ codes "\n"))
-
-abbrev pub annotated : Text → Position → Text
-annotated file position = annotation Note code file position None message
-
-abbrev pub note_in : Format → Text → Position → Text
-note_in Human file position = human file position.line position.column
-note_in Json file position = []
-note_in Short file position = short file position.line position.column
-note_in Github file position = annotated file position
-note_in Sarif file position = []
-
+-- There is a note if the form shows what is said aside.
 abbrev pub note_at : Style → SourceText → ℕ → Text
-note_at style s at =
-    note_in style.format s.file.now (record { line = line_number 1 s.text.now at; column = column s.text.now at })
+note_at style s at = note_if (shows_asides style.format) style s at
 
 abbrev pub note_for : Style → SourceText → Option ℕ → Text
 note_for style s None = []

@@ -1,9 +1,9 @@
 -- The codes of what is reported about descriptions.
 use Rattle.std.specs.Prelude.{Bool, true, false, List, [], ◌∷◌, ◌++◌, bytes_eq, codes, if◌then◌else◌, map}
-use Rattle.timefd_lang_component.specs.Tree.{Text}
+use Rattle.timefd_parse.specs.Tree.{Text}
 use Rattle.timefd_lang_dialect.specs.Reasons as reasons
 use Rattle.timefd_lang_dialect.specs.TrapWords as traps
-use Rattle.timefd_lang_fault.specs.Codes as faults
+use Rattle.timefd_parse.specs.Codes as faults
 use Rattle.timefd_lint_warnings.specs.Dialects.Codes.{all_reasons, all_traps}
 use Rattle.timefd_lang_warnings.specs.Codes as warnings
 

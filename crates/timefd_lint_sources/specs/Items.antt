@@ -3,11 +3,11 @@
 -- and with the first of its alternatives.
 use Rattle.std.specs.Prelude.{ℕ, zero, suc, ◌≡◌, ◌+◌, ◌-◌, ◌⊎◌, Bool, true, false, List, [], ◌∷◌, ◌++◌, codes, length, Option, None, Some, IsUtf8}
 use Rattle.std.specs.List.{repeat}
-use Rattle.timefd_lang_component.specs.Tree.{Text}
-use Rattle.timefd_lang_fault.specs.declared.code.Code.{Code}
-use Rattle.timefd_lang_fault.specs.declared.code.Code.TheVariants.{UnclosedBracket, UnknownName, InvalidModifier, MissingName, MissingModifier, InvalidEscape, UnescapedBracket, MissingSpace, MissingDescription, MissingAlternative, NestedTooDeep, SeveralDescriptions, OptionalItem, FirstItem, UnsupportedFlag, UnsupportedLetter, NestedInComponent, DuplicateModifier, RefusedModifier}
-use Rattle.timefd_lang_fault.specs.Codes.{code_of}
-use Rattle.timefd_lang_fault.specs.Faults.{Fault}
+use Rattle.timefd_parse.specs.Tree.{Text}
+use Rattle.timefd_parse.specs.Code.{Code}
+use Rattle.timefd_parse.specs.Code.TheVariants.{UnclosedBracket, UnknownName, InvalidModifier, MissingName, MissingModifier, InvalidEscape, UnescapedBracket, MissingSpace, MissingDescription, MissingAlternative, NestedTooDeep, SeveralDescriptions, OptionalItem, FirstItem, UnsupportedFlag, UnsupportedLetter, NestedInComponent, DuplicateModifier, RefusedModifier}
+use Rattle.timefd_parse.specs.Codes.{code_of}
+use Rattle.timefd_parse.specs.Faults.{Fault}
 use Rattle.timefd_language.specs.Bytes.{right, is_white, ZeroOrMore}
 use Rattle.timefd_language.specs.Grammar.{nesting_limit}
 use Rattle.timefd_language.specs.declared.description_version.DescriptionVersion.{DescriptionVersion}

@@ -1,9 +1,9 @@
 -- Which outcome a description of a source has.
 use Rattle.std.specs.Prelude.{◌≡◌, Bool, true, false, List, Option, Some, None, IsUtf8, IsTrue, IsFalse}
-use Rattle.timefd_lang_component.specs.Tree.{Text, Tree}
+use Rattle.timefd_parse.specs.Tree.{Text, Tree}
 use Rattle.timefd_lang_dialect.specs.declared.dialect.Dialect as other
 use Rattle.timefd_lang_dialect.specs.declared.dialect.Dialect.TheVariants as others
-use Rattle.timefd_lang_fault.specs.Faults.{Fault}
+use Rattle.timefd_parse.specs.Faults.{Fault}
 use Rattle.timefd_language.specs.Grammar.{nesting_limit}
 use Rattle.timefd_language.specs.declared.description_version.DescriptionVersion.TheVariants as versions
 use Rattle.timefd_language.specs.declared.description_version.Language.{Language}

@@ -1,6 +1,6 @@
 -- The messages on what is wrong with a format of another language or library.
 use Rattle.std.specs.Prelude.{ℕ, ◌++◌}
-use Rattle.timefd_lang_component.specs.Tree.{Text}
+use Rattle.timefd_parse.specs.Tree.{Text}
 use Rattle.timefd_lang_dialect.specs.declared.reason.Reason.{Reason}
 use Rattle.timefd_lang_dialect.specs.declared.trapping.Found.{Found}
 use Rattle.timefd_lint_drawing.specs.declared.draw.Style.{Style}

@@ -1,6 +1,6 @@
 -- What the linter reports about a source besides its descriptions.
 use Rattle.std.specs.Prelude.{ℕ, ◌≡◌, ◌⊎◌, ◌-◌, true, false, List, [], ◌∷◌, ◌++◌, codes, Option, None, Some, drop, length, option_map}
-use Rattle.timefd_lang_component.specs.Tree.{Text}
+use Rattle.timefd_parse.specs.Tree.{Text}
 use Rattle.timefd_lint_drawing.specs.declared.draw.Style.{Style}
 use Rattle.timefd_lint_diagnosis.specs.declared.diagnostic.Span.{Span}
 use Rattle.timefd_lint_diagnosis.specs.Nearest.{IsNearest}

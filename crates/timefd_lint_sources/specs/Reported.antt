@@ -1,7 +1,7 @@
 -- What the linter reports about the descriptions of a source.
 use Rattle.std.specs.List.{All}
 use Rattle.std.specs.Prelude.{Bool, true, false, ◌≡◌, ◌⊎◌, ◌&&◌, List, [], ◌∷◌, ◌++◌, codes, IsUtf8}
-use Rattle.timefd_lang_component.specs.Tree.{Text}
+use Rattle.timefd_parse.specs.Tree.{Text}
 use Rattle.timefd_lint_scan.specs.declared.description.SourceDescription.{SourceDescription}
 use Rattle.timefd_lint_scan.specs.Keys.Found as keys
 use Rattle.timefd_lint_scan.specs.Found.{AreDescriptionsOf, AreInOrder, StandsIn}

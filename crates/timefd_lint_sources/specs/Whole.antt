@@ -1,6 +1,6 @@
 -- What the linter reports about a description, by what is wrong with it.
 use Rattle.std.specs.Prelude.{ℕ, ◌≡◌, List, [], ◌∷◌, ◌++◌, codes, flat_map, length, map}
-use Rattle.timefd_lang_component.specs.Tree.{Text}
+use Rattle.timefd_parse.specs.Tree.{Text}
 use Rattle.timefd_lint_diagnosis.specs.declared.diagnostic.Diagnostic.{Diagnostic}
 use Rattle.timefd_lint_diagnosis.specs.declared.diagnostic.Span.{Span}
 use Rattle.timefd_lint_drawing.specs.declared.draw.Style.{Style}

@@ -1,15 +1,15 @@
 //! The note at a call that takes a description by name.
 
-ghost use Rattle.std.specs.Prelude.{◌≡◌, IfOk, string_bytes};
+ghost use Rattle.std.specs.Prelude.{◌≡◌, IfOk};
 ghost use Rattle.timefd_lint_drawing.specs.Counted.{IsCounted};
+ghost use Rattle.timefd_lint_drawing.specs.Findings.{located_of};
 ghost use Rattle.timefd_lint_sources.specs.Calls as spec;
 
 use crate::reported::{FIRST_LINE, SourceText};
 use std::alloc::{AllocError, Global};
-use timefd_lint_drawing::shown::safe;
 use timefd_lint_drawing::{
-    Counter, FindingKind, FindingLocation, FindingSeverity, FindingWords, Format, Position, Style,
-    annotation, position_from,
+    Counter, FindingKind, FindingLocation, FindingSeverity, FindingWords, Format, Style, drawn_at,
+    reported_position_from,
 };
 use timefd_lint_scan::SourceDescription;
 
@@ -19,8 +19,8 @@ const CODE: &str = "call";
 const MESSAGE: &str = "this call takes the text by its name";
 
 /// The note at the call that takes a description by name. It is empty if the description is in the call
-/// itself, and in JSON and SARIF, where everything that is reported has the code of an error or a warning. An
-/// `Err` says that memory ran out.
+/// itself, and in forms where everything that is reported has the code of an error or a warning. An `Err` says
+/// that memory ran out.
 pub fn call_note(
     alloc: Global,
     style: Style,
@@ -47,72 +47,51 @@ fn note_at(
     requires { IsCounted 1 source.text.now from }
     ensures { IfOk result (λ note. note.items ≡ spec.note_at style source.entry at) }
 {
-    let position = position_from(alloc, FIRST_LINE, source.text, from, at)?;
-    note_in(alloc, style.format, source.file, position)
-}
-
-fn note_in(
-    alloc: Global,
-    format: Format,
-    file: &str,
-    position: Position,
-) -> Result<Vec<u8>, AllocError>
-    ensures { IfOk result (λ note. note.items ≡ spec.note_in format file.now position) }
-{
-    match format {
-        Format::Human => {
-            let drawing = human(alloc, file, position)?;
-            Ok(drawing.into_bytes())
-        }
-        Format::Short => {
-            let line = short(alloc, file, position)?;
-            Ok(line.into_bytes())
-        }
-        Format::Github => annotated(alloc, file, position),
-        Format::Json | Format::Sarif => Ok(Vec::new(alloc)),
+    if !style.format.shows_asides() {
+        return Ok(Vec::new(alloc));
     }
+    shown_note(alloc, style, source, from, at)
 }
 
-fn annotated(alloc: Global, file: &str, position: Position) -> Result<Vec<u8>, AllocError>
-    ensures { IfOk result (λ note. note.items ≡ spec.annotated file.now position) }
+fn shown_note(
+    alloc: Global,
+    style: Style,
+    source: SourceText<'_>,
+    from: Counter,
+    at: usize,
+) -> Result<Vec<u8>, AllocError>
+    requires { IsCounted 1 source.text.now from }
+    ensures { IfOk result (λ note. note.items ≡ spec.shown_note style source.entry at) }
 {
-    let location = FindingLocation {
-        file,
-        start: position,
-        end: None,
-        bytes: None,
-        line: None,
-    };
+    let location = located(alloc, style.format, source, from, at)?;
     let finding = FindingWords {
         severity: FindingSeverity::Note,
-        kind: FindingKind::Fault,
+        kind: FindingKind::Aside,
         code: CODE,
         message: MESSAGE,
         help: None,
         replacement: None,
     };
-    annotation(alloc, location, finding)
+    drawn_at(alloc, style, location, finding)
 }
 
-// `FILE:LINE:COLUMN`
-fn position_text(alloc: Global, file: &str, position: Position) -> Result<String, AllocError>
-    ensures { IfOk result (λ text. string_bytes text ≡ spec.position_text file.now position.line position.column) }
+// Where the name is.
+fn located<'a>(
+    alloc: Global,
+    format: Format,
+    source: SourceText<'a>,
+    from: Counter,
+    at: usize,
+) -> Result<FindingLocation<'a, 'a>, AllocError>
+    requires { IsCounted 1 source.text.now from }
+    ensures { IfOk result (λ location. located_of location ≡ spec.located format source.entry at) }
 {
-    let file = safe(alloc, file)?;
-    let Position { line, column } = position;
-    format!(in alloc; "{file}:{line}:{column}")
-}
-
-fn human(alloc: Global, file: &str, position: Position) -> Result<String, AllocError>
-    ensures { IfOk result (λ text. string_bytes text ≡ spec.human file.now position.line position.column) }
-{
-    let position = position_text(alloc, file, position)?;
-    format!(in alloc; "note: {MESSAGE}\n --> {position}\n\n")
-}
-
-fn short(alloc: Global, file: &str, position: Position) -> Result<String, AllocError>
-    ensures { IfOk result (λ text. string_bytes text ≡ spec.short file.now position.line position.column) }
-{
-    let position = position_text(alloc, file, position)?;
-    format!(in alloc; "{position}: note: {MESSAGE}\n")
+    let start = reported_position_from(alloc, format, FIRST_LINE, source.text, from, at)?;
+    Ok(FindingLocation {
+        file: source.file,
+        start,
+        end: None,
+        bytes: None,
+        line: None,
+    })
 }

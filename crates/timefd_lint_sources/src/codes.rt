@@ -13,7 +13,7 @@ use timefd_lint_warnings::dialects::{all_reasons, all_traps};
 
 /// What has a code.
 pub trait Coded {
-    ghost use Rattle.timefd_lang_component.specs.Tree.{Text};
+    ghost use Rattle.timefd_parse.specs.Tree.{Text};
 
     ghost code: { Self → Text };
 
@@ -23,7 +23,7 @@ pub trait Coded {
 }
 
 impl Coded for Code {
-    ghost use Rattle.timefd_lang_fault.specs.Codes.{name_of};
+    ghost use Rattle.timefd_parse.specs.Codes.{name_of};
 
     ghost code = { name_of };
 

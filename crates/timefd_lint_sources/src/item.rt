@@ -1,7 +1,7 @@
 //! Brackets that `parse` refuses in versions 1 and 2: `[optional [..]]`, `[first [..] [..]]`.
 
 ghost use Rattle.std.specs.Prelude.{◌≡◌, ◌≤◌, IfSome, MatchOption, length};
-ghost use Rattle.timefd_lang_component.specs.Tree.{Text};
+ghost use Rattle.timefd_parse.specs.Tree.{Text};
 ghost use Rattle.timefd_lint_sources.specs.Items.{HasEnd, IsClosing, IsItem};
 
 use std::alloc::Global;

@@ -1,7 +1,7 @@
 //! Descriptions as they are checked: with their items opened if their places take items.
 
 ghost use Rattle.std.specs.Prelude.{◌≡◌, IfOk, IfSome, IsUtf8, None, false, length, true};
-ghost use Rattle.timefd_lang_component.specs.Tree.{Text};
+ghost use Rattle.timefd_parse.specs.Tree.{Text};
 ghost use Rattle.timefd_lint_sources.specs.Items.{AreJudgedAs, HoldsItem, IsAllOpened, IsJudgedAs, IsOpened};
 ghost use Rattle.timefd_lint_sources.specs.Items as spec;
 

@@ -1,14 +1,14 @@
 //! What is wrong with a text where it stands: one judgement for lines, literals, values of keys and editors.
 
-ghost use Rattle.std.specs.Prelude.{◌≡◌, ◌∷◌, ◌++◌, IfOk, List, OnOk, flat_map};
-ghost use Rattle.timefd_lang_component.specs.Tree.{Tree};
-ghost use Rattle.timefd_lang_fault.specs.Faults.{fault_of};
-ghost use Rattle.timefd_lang_fault.specs.Placed.{IsPlaced};
+ghost use Rattle.std.specs.Prelude.{◌≡◌, ◌∷◌, ◌++◌, IfOk, IfSome, List, OnOk, Some, flat_map};
+ghost use Rattle.timefd_parse.specs.Tree.{Tree};
+ghost use Rattle.timefd_parse.specs.Faults.{fault_of};
+ghost use Rattle.timefd_parse.specs.Placed.{IsPlaced};
 ghost use Rattle.timefd_language.specs.Grammar.{nesting_limit};
 ghost use Rattle.timefd_lint_diagnosis.specs.declared.diagnostic.Diagnostic as diagnostics;
 ghost use Rattle.timefd_lint_diagnosis.specs.Further.{AreFurther, most_further, without};
 ghost use Rattle.timefd_lint_sources.specs.declared.verdict.TextPlace.TheVariants.{Own, Other};
-ghost use Rattle.timefd_lint_sources.specs.Verdicts.{AreTrapsIf, IsVerdict, found_if, unless_item};
+ghost use Rattle.timefd_lint_sources.specs.Verdicts.{AreTrapsIf, IsAcceptedBy, IsVerdict, found_if, unless_item};
 ghost use Rattle.timefd_lint_sources.specs.Verdicts as spec;
 ghost use Rattle.timefd_parse.specs.Language.{SpellsIn};
 
@@ -20,7 +20,7 @@ use timefd_lang_dialect::{Dialect, Found, traps};
 use timefd_lang_warnings::Levels;
 use timefd_lint_diagnosis::{Diagnostic, MOST_FURTHER, diagnose, further_faults};
 use timefd_lint_scan::Items;
-use timefd_lint_warnings::found_in;
+use timefd_lint_warnings::{found_at_once, found_in};
 use timefd_parse::Language;
 
 /// What is wrong with a text where it stands. Warnings and traps are looked for if they have levels. An `Err` says that
@@ -42,6 +42,37 @@ pub fn judge(
 
 // What is wrong with a text of a language of `time`.
 fn judge_own(
+    alloc: Global,
+    language: Language,
+    items: Items,
+    levels: Option<Levels>,
+    text: &str,
+) -> Result<TextJudgement, AllocError>
+    ensures { IfOk result (IsVerdict (Own language items) levels text.now) }
+{
+    match warned_at_once(alloc, language, levels, text) {
+        Some(found) => Ok(TextJudgement::Accepted(language, Some(found))),
+        None => judge_step_by_step(alloc, language, items, levels, text),
+    }
+}
+
+// The warnings of a text that its language accepts, if they are looked for: it is read once. `None` says nothing.
+fn warned_at_once(
+    alloc: Global,
+    language: Language,
+    levels: Option<Levels>,
+    text: &str,
+) -> Option<Levels>
+    ensures { IfSome result (λ found. IsAcceptedBy language levels text.now (Some found)) }
+{
+    match levels {
+        Some(levels) => found_at_once(alloc, language, text, levels),
+        None => None,
+    }
+}
+
+// What is wrong with a text of a language of `time`: first its faults, and if it has none, its warnings.
+fn judge_step_by_step(
     alloc: Global,
     language: Language,
     items: Items,

@@ -3,9 +3,9 @@
 
 ghost use Rattle.std.specs.Prelude.{◌≡◌, ◌++◌, Bool, IfOk, IfSome, None, Some, length, string_bytes, true};
 ghost use Rattle.std.specs.Str.{IsCharBoundary};
-ghost use Rattle.timefd_lang_component.specs.Tree.{Text};
-ghost use Rattle.timefd_lang_fault.specs.Codes as codes;
-ghost use Rattle.timefd_lang_fault.specs.Faults.{Fault};
+ghost use Rattle.timefd_parse.specs.Tree.{Text};
+ghost use Rattle.timefd_parse.specs.Codes as codes;
+ghost use Rattle.timefd_parse.specs.Faults.{Fault};
 ghost use Rattle.timefd_language.specs.Grammar.{nesting_limit};
 ghost use Rattle.timefd_parse.specs.Language.{FaultIn};
 ghost use Rattle.timefd_language.specs.declared.description_version.Language as language;

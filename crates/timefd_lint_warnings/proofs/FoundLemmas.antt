@@ -1,8 +1,8 @@
 -- The parts of what a text spells.
 use Rattle.std.proofs.Common.{◌≡◌, List, ap, ◌∙◌}
-use Rattle.timefd_lang_component.specs.Tree.{Tree, trees}
-use Rattle.timefd_language.specs.declared.description_version.DescriptionVersion.{DescriptionVersion}
-use Rattle.timefd_language.specs.declared.description_version.DescriptionVersion.TheVariants.{One, Two, Three}
+use Rattle.timefd_parse.specs.Tree.{Tree, trees}
+use Rattle.timefd_parse.specs.DescriptionVersion.{DescriptionVersion}
+use Rattle.timefd_parse.specs.DescriptionVersion.TheVariants.{One, Two, Three}
 use Rattle.timefd_lang_node_list.specs.Leaves.{leaves, leaves_all, leaves_in}
 use Rattle.timefd_parse.specs.Answers.{IsOutput}
 use Rattle.timefd_parse.specs.declared.parsing.BorrowedOutput.{BorrowedOutput}

@@ -1,7 +1,7 @@
 -- The languages that read a text which has no component.
 use Rattle.std.proofs.Common.{◌≡◌, ◌==◌, cond, Bool, true, false, List, [], ◌∷◌, ◌++◌, append-nil, append_assoc, refl, sym, ap, ◌∙◌}
 use Rattle.std.specs.List.{filter, list_any}
-use Rattle.timefd_lang_component.specs.Tree.{Text}
+use Rattle.timefd_parse.specs.Tree.{Text}
 use Rattle.timefd_lang_dialect.specs.declared.dialect.Dialect.{Dialect}
 use Rattle.timefd_lang_dialect.specs.Readers.{readers}
 use Rattle.timefd_lint_warnings.specs.Hints.{alone, is_offered, offered}

@@ -1,4 +1,3 @@
 pub mod FoundLemmas
 pub mod HintLemmas
 pub mod MessageLemmas
-pub mod DialectLemmas

@@ -1,6 +1,6 @@
 -- A warning as a finding: its words are the warning's.
 use Rattle.std.proofs.Common.{ℕ, ◌≡◌, None, Some}
-use Rattle.timefd_lang_component.specs.Tree.{Text}
+use Rattle.timefd_parse.specs.Tree.{Text}
 use Rattle.timefd_lang_warnings.specs.declared.levels.Level.{Level}
 use Rattle.timefd_lang_warnings.specs.declared.warning.Warning.{Warning}
 use Rattle.timefd_lang_warnings.specs.Codes.{name_of, sentence_of}
@@ -9,7 +9,8 @@ use Rattle.timefd_lint_drawing.specs.declared.draw.Style.{Style}
 use Rattle.timefd_lint_drawing.specs.declared.finding.FindingKind.TheVariants.{Labelled}
 use Rattle.timefd_lint_drawing.specs.declared.position.Origin.{Origin}
 use Rattle.timefd_lint_drawing.specs.declared.severity.FindingSeverity.{FindingSeverity}
-use Rattle.timefd_lint_drawing.specs.Findings.{Located, drawn_at}
+use Rattle.timefd_lint_drawing.specs.Findings.{Located}
+use Rattle.timefd_lint_drawing.specs.Forms.{drawn_at}
 use Rattle.timefd_lint_warnings.specs.Hints.{help_on}
 use Rattle.timefd_lint_warnings.specs.Messages.{located, message, said, severity}
 

@@ -1,7 +1,7 @@
 -- The help on a warning, and which languages read a text that has no component.
 use Rattle.std.specs.Prelude.{◌==◌, Bool, true, not, List, [], ◌∷◌, ◌++◌, codes, flat_map}
 use Rattle.std.specs.List.{filter, list_any}
-use Rattle.timefd_lang_component.specs.Tree.{Text}
+use Rattle.timefd_parse.specs.Tree.{Text}
 use Rattle.timefd_lang_dialect.specs.declared.dialect.Dialect.{Dialect}
 use Rattle.timefd_lang_dialect.specs.declared.dialect.Dialect.TheVariants.{Python, C, Gnu, Chrono, Jiff, Ruby, Java, Go, Moment}
 use Rattle.timefd_lang_dialect.specs.Dialects.{name_of}

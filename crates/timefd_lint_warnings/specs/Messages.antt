@@ -1,10 +1,9 @@
 -- What the linter reports about the warnings of a text.
-use Rattle.std.specs.Prelude.{ℕ, ◌+◌, ◌-◌, ◌^◌, List, false, [], ◌++◌, Option, None, Some, chars, flat_map, length, min}
+use Rattle.std.specs.Prelude.{ℕ, ◌+◌, ◌-◌, ◌^◌, Bool, true, false, List, [], ◌++◌, Option, None, Some, chars, flat_map, length, min}
 use Rattle.unicode_width.specs.Width.{str_width}
-use Rattle.timefd_lang_component.specs.Tree.{Text}
+use Rattle.timefd_parse.specs.Tree.{Text}
 use Rattle.timefd_lint_diagnosis.specs.declared.diagnostic.Span.{Span}
-use Rattle.timefd_lint_drawing.specs.declared.draw.Format.{Format}
-use Rattle.timefd_lint_drawing.specs.declared.draw.Format.TheVariants.{Human, Json, Short, Github, Sarif}
+use Rattle.timefd_lint_drawing.specs.declared.form.Format.{Format}
 use Rattle.timefd_lint_drawing.specs.declared.draw.Style.{Style}
 use Rattle.timefd_lint_drawing.specs.declared.finding.FindingKind.TheVariants.{Labelled}
 use Rattle.timefd_lint_drawing.specs.declared.position.Origin.{Origin}
@@ -12,7 +11,8 @@ use Rattle.timefd_lint_drawing.specs.declared.position.Position.{Position}
 use Rattle.timefd_lint_drawing.specs.declared.severity.FindingSeverity.{FindingSeverity}
 use Rattle.timefd_lint_drawing.specs.declared.severity.FindingSeverity.TheVariants.{Error, Note, Warning as SeverityWarning}
 use Rattle.timefd_lint_drawing.specs.Drawing.{cut_at}
-use Rattle.timefd_lint_drawing.specs.Findings.{Located, Said, drawn_at}
+use Rattle.timefd_lint_drawing.specs.Findings.{Located, Said}
+use Rattle.timefd_lint_drawing.specs.Forms.{drawn_at, shows_part_end}
 use Rattle.timefd_lint_drawing.specs.Positions.{spanned}
 use Rattle.timefd_lint_drawing.specs.Shown.{safe}
 use Rattle.timefd_lint_warnings.specs.Hints.{help_on}
@@ -34,13 +34,13 @@ severity Denied = Error
 abbrev pub column_after : ℕ → Text → ℕ
 column_after column text = min (column + str_width false (chars (safe text))) (2 ^ 64 - 1)
 
--- One form has the position of what follows the text in its first line.
+-- The position of what follows the text in its first line, if the form shows it.
+abbrev pub end_if : Bool → ℕ → ℕ → Text → Option Position
+end_if false number column at = None
+end_if true number column at = Some (record { line = number; column = column_after column at })
+
 abbrev pub end_of : Format → ℕ → ℕ → Text → Option Position
-end_of Human number column at = None
-end_of Json number column at = None
-end_of Short number column at = None
-end_of Github number column at = Some (record { line = number; column = column_after column at })
-end_of Sarif number column at = None
+end_of format number column at = end_if (shows_part_end format) number column at
 
 -- A warning is about the whole text, which is the part `span` of `whole` and begins at this column of its line.
 abbrev pub located : Format → Origin → Text → Span → ℕ → Located

@@ -5,4 +5,4 @@ mod codes;
 mod judging;
 
 pub use codes::{all_reasons, all_traps, names_are_read, reason_named, trap_named};
-pub use judging::{JudgedFormat, Judgement, judge, refusal_drawn, trap_drawn};
+pub use judging::{refusal_drawn, trap_drawn};

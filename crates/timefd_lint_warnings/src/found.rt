@@ -1,17 +1,17 @@
 //! The warnings of a text that a language accepts.
 
-ghost use Rattle.std.specs.Prelude.{◌≡◌, List, IfOk};
-ghost use Rattle.timefd_lang_component.specs.Tree.{Tree};
-ghost use Rattle.timefd_language.specs.Grammar.{Spells, nesting_limit};
-ghost use Rattle.timefd_language.specs.Strftime.{SpellsStrftime};
+ghost use Rattle.std.specs.Prelude.{◌≡◌, List, IfOk, IfSome};
+ghost use Rattle.timefd_parse.specs.Tree.{Tree};
+ghost use Rattle.timefd_parse.specs.Grammar.{nesting_limit};
+ghost use Rattle.timefd_parse.specs.LanguageType.TheVariants.{Version, Strftime};
 ghost use Rattle.timefd_parse.specs.Language.{SpellsIn};
 ghost use Rattle.timefd_lang_warnings.specs.declared.warned.LanguageStyle.TheVariants as styles;
 ghost use Rattle.timefd_lang_warnings.specs.Levels.{found};
-ghost use Rattle.timefd_lang_node_list.specs.Leaves.{leaves_in};
+ghost use Rattle.timefd_lint_warnings.specs.Found.{IsFoundIn};
 ghost use Rattle.timefd_lint_warnings.specs.Found as spec;
 
 use std::alloc::{AllocError, Global};
-use timefd_lang_warnings::{LanguageStyle, Level, Levels, ReadDescription};
+use timefd_lang_warnings::{LanguageStyle, Levels, ReadDescription};
 use timefd_parse::{
     BorrowedOutput, DescriptionVersion, Language, NESTING_LIMIT, StrftimeTables,
     parse_all_borrowed, parse_strftime_all_borrowed,
@@ -28,26 +28,27 @@ pub fn found_in(
     ensures { (list : List Tree) → SpellsIn language nesting_limit text.now list
         → IfOk result (λ reported. reported ≡ spec.found_in language levels list) }
 {
-    match language {
-        Language::Version(version) => found_in_version(alloc, version, text, levels),
-        Language::Strftime => found_in_strftime(alloc, text, levels),
+    match found_at_once(alloc, language, text, levels) {
+        Some(found) => Ok(found),
+        None => Err(AllocError),
     }
 }
 
-/// The levels of the warnings that a text has, if warnings are asked for. With `None` every warning
-/// is allowed. An `Err` says that memory ran out.
-pub fn found_by(
+/// The levels of the warnings that a text has, if its language accepts it and there is memory for its
+/// items; every other warning is allowed. `None` says nothing: whoever wants to know why looks again.
+pub fn found_at_once(
     alloc: Global,
-    levels: Option<Levels>,
     language: Language,
     text: &str,
-) -> Result<Levels, AllocError>
-    ensures { (list : List Tree) → SpellsIn language nesting_limit text.now list
-        → IfOk result (λ reported. reported ≡ spec.found_by levels language list) }
+    levels: Levels,
+) -> Option<Levels>
+    ensures accepted { IfSome result (IsFoundIn language levels text.now) }
+    ensures spelled { (list : List Tree) → SpellsIn language nesting_limit text.now list
+        → IfSome result (λ reported. reported ≡ spec.found_in language levels list) }
 {
-    match levels {
-        Some(levels) => found_in(alloc, language, text, levels),
-        None => Ok(Levels::all_at(Level::Allowed)),
+    match language {
+        Language::Version(version) => found_in_version(alloc, version, text, levels),
+        Language::Strftime => found_in_strftime(alloc, text, levels),
     }
 }
 
@@ -56,13 +57,14 @@ fn found_in_version(
     version: DescriptionVersion,
     text: &str,
     levels: Levels,
-) -> Result<Levels, AllocError>
-    ensures { (list : List Tree) → Spells version nesting_limit 0 text.now list
-        → IfOk result (λ reported. reported ≡ found levels styles.Brackets (leaves_in list)) }
+) -> Option<Levels>
+    ensures accepted { IfSome result (IsFoundIn (Version version) levels text.now) }
+    ensures spelled { (list : List Tree) → SpellsIn (Version version) nesting_limit text.now list
+        → IfSome result (λ reported. reported ≡ spec.found_in (Version version) levels list) }
 {
     match parse_all_borrowed(alloc, version, NESTING_LIMIT, text) {
-        Ok(output) => Ok(found_of(&output, levels)),
-        Err(_) => Err(AllocError),
+        Ok(output) => Some(found_of(&output, levels)),
+        Err(_) => None,
     }
 }
 
@@ -83,13 +85,14 @@ fn found_of(output: &BorrowedOutput<'_>, levels: Levels) -> Levels
     }
 }
 
-fn found_in_strftime(alloc: Global, text: &str, levels: Levels) -> Result<Levels, AllocError>
-    ensures { (list : List Tree) → SpellsStrftime text.now list
-        → IfOk result (λ reported. reported ≡ found levels styles.Percents (leaves_in list)) }
+fn found_in_strftime(alloc: Global, text: &str, levels: Levels) -> Option<Levels>
+    ensures accepted { IfSome result (IsFoundIn Strftime levels text.now) }
+    ensures spelled { (list : List Tree) → SpellsIn Strftime nesting_limit text.now list
+        → IfSome result (λ reported. reported ≡ spec.found_in Strftime levels list) }
 {
     let tables = StrftimeTables::new();
     match parse_strftime_all_borrowed(alloc, &tables, text) {
-        Ok(items) => Ok(levels.found(LanguageStyle::Percents, ReadDescription::Items(&items))),
-        Err(_) => Err(AllocError),
+        Ok(items) => Some(levels.found(LanguageStyle::Percents, ReadDescription::Items(&items))),
+        Err(_) => None,
     }
 }

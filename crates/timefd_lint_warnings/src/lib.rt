@@ -10,5 +10,5 @@ mod reported;
 // What is reported of formats of other languages.
 pub mod dialects;
 
-pub use found::{found_by, found_in};
+pub use found::{found_at_once, found_in};
 pub use reported::{messages, messages_at};

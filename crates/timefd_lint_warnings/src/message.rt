@@ -89,11 +89,11 @@ fn end_of(
 ) -> Result<Option<Position>, AllocError>
     ensures { IfOk result (λ end. end ≡ spec.end_of format number column line.entry.at.now) }
 {
-    match format {
-        Format::Human | Format::Json | Format::Short | Format::Sarif => Ok(None),
-        Format::Github => Ok(Some(Position {
-            line: number,
-            column: column.saturating_add(columns(alloc, line.at)?),
-        })),
+    if !format.shows_part_end() {
+        return Ok(None);
     }
+    Ok(Some(Position {
+        line: number,
+        column: column.saturating_add(columns(alloc, line.at)?),
+    }))
 }

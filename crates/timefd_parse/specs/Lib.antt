@@ -12,3 +12,25 @@ pub mod Answers
 pub mod Language
 pub mod FirstPiece
 pub mod BracketParts
+pub use Rattle.timefd_items.specs.Description
+pub use Rattle.timefd_lang_component.specs.Modern
+pub use Rattle.timefd_lang_component.specs.Reserved
+pub use Rattle.timefd_lang_component.specs.Tree
+pub use Rattle.timefd_lang_fault.specs.BorrowedFaults
+pub use Rattle.timefd_lang_fault.specs.Codes
+pub use Rattle.timefd_lang_fault.specs.Faults
+pub use Rattle.timefd_lang_fault.specs.Placed
+pub use Rattle.timefd_lang_fault.specs.Reported
+pub use Rattle.timefd_lang_fault.specs.RuleKinds
+pub use Rattle.timefd_lang_fault.specs.Sentences
+pub use Rattle.timefd_lang_fault.specs.Words
+pub use Rattle.timefd_lang_fault.specs.declared.borrowed_fault.BorrowedFault
+pub use Rattle.timefd_lang_fault.specs.declared.borrowed_parse_error.BorrowedParseError
+pub use Rattle.timefd_lang_fault.specs.declared.borrowed_parse_error.ParseError
+pub use Rattle.timefd_lang_fault.specs.declared.code.Code
+pub use Rattle.timefd_lang_fault.specs.declared.invalid_format_description.InvalidFormatDescription
+pub use Rattle.timefd_language.specs.Broken
+pub use Rattle.timefd_language.specs.Grammar
+pub use Rattle.timefd_language.specs.Strftime
+pub use Rattle.timefd_language.specs.declared.description_version.DescriptionVersion
+pub use Rattle.timefd_language.specs.declared.description_version.Language as LanguageType

@@ -1,12 +1,12 @@
 -- A rewritten text has no fault in version 2.
 use Rattle.std.proofs.Common.{◌≡◌, List, refl, subst}
-use Rattle.timefd_lang_fault.specs.declared.invalid_format_description.InvalidFormatDescription.{InvalidFormatDescription}
-use Rattle.timefd_lang_component.specs.Tree.{Text, Tree}
-use Rattle.timefd_language.specs.declared.description_version.DescriptionVersion.TheVariants.{Two}
-use Rattle.timefd_lang_fault.specs.declared.borrowed_parse_error.ParseError.{ParseError}
-use Rattle.timefd_lang_fault.specs.declared.borrowed_parse_error.ParseError.TheVariants.{Invalid}
-use Rattle.timefd_lang_fault.specs.Reported.{MemoryAlone}
-use Rattle.timefd_language.specs.Grammar.{Spells, items, nesting_limit}
+use Rattle.timefd_parse.specs.InvalidFormatDescription.{InvalidFormatDescription}
+use Rattle.timefd_parse.specs.Tree.{Text, Tree}
+use Rattle.timefd_parse.specs.DescriptionVersion.TheVariants.{Two}
+use Rattle.timefd_parse.specs.ParseError.{ParseError}
+use Rattle.timefd_parse.specs.ParseError.TheVariants.{Invalid}
+use Rattle.timefd_parse.specs.Reported.{MemoryAlone}
+use Rattle.timefd_parse.specs.Grammar.{Spells, items, nesting_limit}
 use Rattle.timefd_lift.specs.Answers.{IsRewritten, HasItemsOf}
 
 pub no_fault : (text answer read : Text) (e : ParseError) (f : InvalidFormatDescription)

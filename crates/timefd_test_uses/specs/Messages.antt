@@ -2,9 +2,9 @@
 use Rattle.std.specs.Prelude.{ℕ, ◌≡◌, ◌+◌, ◌-◌, ◌++◌, [], get_or, take, replicate, codes}
 use Rattle.std.specs.Fmt.{decimal, char_count}
 use Rattle.std.specs.Str.Lines.{lines}
-use Rattle.timefd_lang_fault.specs.Faults.{Fault}
-use Rattle.timefd_lang_fault.specs.Sentences.{sentence}
-use Rattle.timefd_lang_component.specs.Tree.{Text}
+use Rattle.timefd_parse.specs.Faults.{Fault}
+use Rattle.timefd_parse.specs.Sentences.{sentence}
+use Rattle.timefd_parse.specs.Tree.{Text}
 use Rattle.timefd_test_uses.specs.Positions.{newlines, begun_line}
 
 -- the line and the column of the position after a text

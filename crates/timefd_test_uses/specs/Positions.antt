@@ -1,6 +1,6 @@
 -- Lines of a text.
 use Rattle.std.specs.Prelude.{ℕ, ◌+◌, ◌==◌, if◌then◌else◌, [], ◌∷◌}
-use Rattle.timefd_lang_component.specs.Tree.{Text}
+use Rattle.timefd_parse.specs.Tree.{Text}
 
 -- how many newlines the text has
 abbrev pub newlines : Text → ℕ

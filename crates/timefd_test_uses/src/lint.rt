@@ -1,10 +1,10 @@
 //! Shows where a text has a fault, as a linter does.
 
 ghost use Rattle.std.specs.Prelude.{◌≡◌, List, None, IfOk, IfSome, string_bytes};
-ghost use Rattle.timefd_lang_fault.specs.Faults as spec;
-ghost use Rattle.timefd_lang_component.specs.Tree.{Tree};
-ghost use Rattle.timefd_language.specs.Broken.{FaultOf};
-ghost use Rattle.timefd_language.specs.Grammar.{Spells, nesting_limit};
+ghost use Rattle.timefd_parse.specs.Faults as spec;
+ghost use Rattle.timefd_parse.specs.Tree.{Tree};
+ghost use Rattle.timefd_parse.specs.Broken.{FaultOf};
+ghost use Rattle.timefd_parse.specs.Grammar.{Spells, nesting_limit};
 ghost use Rattle.timefd_test_uses.specs.Messages.{IsMessage};
 
 use crate::position::{LineColumn, caret_line, line_of, position_of};

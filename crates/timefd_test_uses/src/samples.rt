@@ -1,7 +1,7 @@
 //! What `main` prints about each use.
 
 ghost use Rattle.std.specs.Prelude.{◌≤◌};
-ghost use Rattle.timefd_language.specs.Grammar.{nesting_limit};
+ghost use Rattle.timefd_parse.specs.Grammar.{nesting_limit};
 
 use crate::date::Date;
 use crate::lint::lint;

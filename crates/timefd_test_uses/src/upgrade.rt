@@ -2,12 +2,12 @@
 
 ghost use Rattle.std.specs.Prelude.{◌≡◌, List, IfOk, MatchResult, length, string_bytes};
 ghost use Rattle.std.specs.Result.{IfErr};
-ghost use Rattle.timefd_lang_component.specs.Tree.{Tree};
-ghost use Rattle.timefd_lang_fault.specs.Faults.{Fault};
-ghost use Rattle.timefd_language.specs.Broken.{FaultOf};
-ghost use Rattle.timefd_language.specs.Grammar.{Spells, nesting_limit};
-ghost use Rattle.timefd_lang_fault.specs.Reported.{IsFaultOrMemory};
-ghost use Rattle.timefd_language.specs.declared.description_version.DescriptionVersion.TheVariants.{One, Two};
+ghost use Rattle.timefd_parse.specs.Tree.{Tree};
+ghost use Rattle.timefd_parse.specs.Faults.{Fault};
+ghost use Rattle.timefd_parse.specs.Broken.{FaultOf};
+ghost use Rattle.timefd_parse.specs.Grammar.{Spells, nesting_limit};
+ghost use Rattle.timefd_parse.specs.Reported.{IsFaultOrMemory};
+ghost use Rattle.timefd_parse.specs.DescriptionVersion.TheVariants.{One, Two};
 ghost use Rattle.timefd_lift.specs.Answers.{HasItemsOf};
 ghost use Rattle.timefd_parse.specs.Answers.{IsAssigned};
 

@@ -1,7 +1,7 @@
 //! Writes a date by a description of version 3, or of any language.
 
 ghost use Rattle.std.specs.Prelude.{◌≡◌, ◌≤◌, IfErr, length};
-ghost use Rattle.timefd_lang_component.specs.Reserved.{reserve};
+ghost use Rattle.timefd_parse.specs.Reserved.{reserve};
 ghost use Rattle.timefd_date_format.specs.Answers.{IsAnswer};
 ghost use Rattle.timefd_date_format.specs.Fronts.{IsFront};
 ghost use Rattle.timefd_date_format.specs.Outcomes.{IsOutcome};

@@ -1,8 +1,8 @@
 -- From the report on a text to the answer about its bytes.
 use Rattle.std.proofs.Common.{ℕ, ◌≡◌, Some, subst}
-use Rattle.timefd_lang_component.specs.Tree.{Text}
+use Rattle.timefd_parse.specs.Tree.{Text}
 use Rattle.timefd_date_moment.specs.declared.moment.Moment.{Moment}
-use Rattle.timefd_language.specs.declared.description_version.Language.{Language}
+use Rattle.timefd_parse.specs.LanguageType.{Language}
 use Rattle.timefd_web.specs.declared.fields.MomentParts.{MomentParts}
 use Rattle.timefd_web.specs.Answers.{ReadsOf, ReportsOf, language_of}
 use Rattle.timefd_web.specs.Moments.{IsMoment}

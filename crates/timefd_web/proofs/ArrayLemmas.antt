@@ -8,7 +8,7 @@ use Rattle.json.specs.Strict.{ItemsHaveUniqueKeys}
 use Rattle.json.specs.Tree.{items_tokens, items_depth}
 use Rattle.json.specs.Value.{items_of}
 use Rattle.json.proofs.Printed.Utf8.{IsUtf8-are_ascii}
-use Rattle.timefd_lang_component.specs.Tree.{Text}
+use Rattle.timefd_parse.specs.Tree.{Text}
 use Rattle.timefd_web.specs.JsonLaws.Logs.{All}
 use Rattle.timefd_web.proofs.JsonLawLemmas.Fields.{then}
 use Rattle.timefd_web.proofs.JsonLawLemmas.Lists.{AreMembers, no_members, more_members}

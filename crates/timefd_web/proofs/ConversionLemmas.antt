@@ -4,7 +4,7 @@ use Rattle.std.proofs.lemmas.Result.{IfOk-weaker}
 use Rattle.std.specs.declared.alloc.AllocError.{AllocError}
 use Rattle.std.specs.declared.alloc.Global.{Global}
 use Rattle.std.specs.declared.vec.Vec.{Vec}
-use Rattle.timefd_lang_component.specs.Tree.{Text}
+use Rattle.timefd_parse.specs.Tree.{Text}
 use Rattle.timefd_lang_dialect.specs.Answers.{IsConverted}
 use Rattle.timefd_lang_dialect.specs.Back.{IsFormatOf, IsMerged, LacksAt}
 use Rattle.timefd_lang_dialect.specs.Items.{IsSpelledBy}

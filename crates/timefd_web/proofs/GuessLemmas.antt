@@ -6,7 +6,7 @@ use Rattle.std.specs.declared.alloc.AllocError.{AllocError}
 use Rattle.std.specs.declared.alloc.Global.{Global}
 use Rattle.std.specs.declared.vec.Vec.{Vec}
 use Rattle.std.specs.Str.Lines.{lines}
-use Rattle.timefd_lang_component.specs.Tree.{Text}
+use Rattle.timefd_parse.specs.Tree.{Text}
 use Rattle.timefd_description.specs.Guessing.Candidates.{all_entries}
 use Rattle.timefd_description.specs.Guessing.Found.{AreGuesses, ReadsBack, texts}
 use Rattle.timefd_description.specs.declared.guessing.guessing.Guess.{Guess}

@@ -2,7 +2,7 @@
 use Rattle.std.proofs.Common.{◌≡◌, ◌∙◌, ◌++◌, List, [], Option, ap, codes, string_bytes}
 use Rattle.std.specs.declared.alloc.Global.{Global}
 use Rattle.std.specs.declared.string.String.{String}
-use Rattle.timefd_lang_component.specs.Tree.{Text}
+use Rattle.timefd_parse.specs.Tree.{Text}
 use Rattle.timefd_lint_drawing.specs.Json.{number_field, text_field}
 use Rattle.timefd_lint_explain.specs.declared.explain.Explanation.{Explanation}
 use Rattle.timefd_lint_explain.specs.declared.node.ShownNode.{ShownNode}

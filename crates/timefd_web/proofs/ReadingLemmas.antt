@@ -4,11 +4,11 @@ use Rattle.std.proofs.lemmas.Result.{IfOk-weaker}
 use Rattle.std.specs.declared.alloc.AllocError.{AllocError}
 use Rattle.std.specs.declared.alloc.Global.{Global}
 use Rattle.std.specs.declared.vec.Vec.{Vec}
-use Rattle.timefd_lang_component.specs.Tree.{Text, Tree}
-use Rattle.timefd_lang_fault.specs.Faults.{Fault}
-use Rattle.timefd_language.specs.Grammar.{nesting_limit}
+use Rattle.timefd_parse.specs.Tree.{Text, Tree}
+use Rattle.timefd_parse.specs.Faults.{Fault}
+use Rattle.timefd_parse.specs.Grammar.{nesting_limit}
 use Rattle.timefd_date_moment.specs.declared.moment.Moment.{Moment}
-use Rattle.timefd_language.specs.declared.description_version.Language.{Language}
+use Rattle.timefd_parse.specs.LanguageType.{Language}
 use Rattle.timefd_parse.specs.Language.{SpellsIn, FaultIn}
 use Rattle.timefd_description.specs.ReadAnswers.{IsReadAs, IsRefusedFor, fields_in}
 use Rattle.timefd_description.specs.declared.read_error.ReadTextError.{ReadTextError}

@@ -7,7 +7,7 @@ use Rattle.json.specs.Lex.{Lexeme, token, comma, colon, lex}
 use Rattle.json.proofs.Printed.Numbers.{in_word-ended}
 use Rattle.json.proofs.Printed.Utf8.{IsUtf8-are_ascii}
 use Rattle.std.specs.Prelude.{cond}
-use Rattle.timefd_lang_component.specs.Tree.{Text}
+use Rattle.timefd_parse.specs.Tree.{Text}
 use Rattle.timefd_web.proofs.JsonLawLemmas.Fronts.{first_key, next_key}
 use Rattle.timefd_web.proofs.JsonLawLemmas.Pieces.{Lexes, Opens}
 

@@ -5,21 +5,21 @@ use Rattle.std.specs.declared.alloc.AllocError.{AllocError}
 use Rattle.std.specs.declared.alloc.Global.{Global}
 use Rattle.std.specs.declared.string.String.{String}
 use Rattle.std.specs.declared.vec.Vec.{Vec}
-use Rattle.timefd_lang_fault.specs.Placed.{IsPlaced}
-use Rattle.timefd_lang_component.specs.Reserved.{reserve_all}
-use Rattle.timefd_lang_component.specs.Tree.{Text, Tree, trees}
+use Rattle.timefd_parse.specs.Placed.{IsPlaced}
+use Rattle.timefd_parse.specs.Reserved.{reserve_all}
+use Rattle.timefd_parse.specs.Tree.{Text, Tree, trees}
 use Rattle.timefd_lint_diagnosis.specs.declared.diagnostic.Diagnostic.{Diagnostic}
 use Rattle.timefd_lint_diagnosis.specs.Diagnoses.{IsDiagnosis}
 use Rattle.timefd_lint_explain.specs.Examples.{Examples}
 use Rattle.timefd_lint_explain.specs.Parts.{AreParts, all_parts}
 use Rattle.timefd_lint_explain.specs.Stands.{NodesStand}
 use Rattle.timefd_lint_explain.specs.declared.explain.Explanation.{Explanation}
-use Rattle.timefd_lang_fault.specs.Faults.{fault_of}
+use Rattle.timefd_parse.specs.Faults.{fault_of}
 use Rattle.timefd_date_format.specs.Written.{written_all}
-use Rattle.timefd_language.specs.Grammar.{nesting_limit}
+use Rattle.timefd_parse.specs.Grammar.{nesting_limit}
 use Rattle.timefd_date_moment.specs.declared.moment.Moment.{Moment}
 use Rattle.timefd_lang_node_list.specs.Nodes.{kept_bytes}
-use Rattle.timefd_language.specs.declared.description_version.Language.{Language}
+use Rattle.timefd_parse.specs.LanguageType.{Language}
 use Rattle.timefd_parse.specs.Language.{SpellsIn, FaultIn}
 use Rattle.timefd_web.specs.declared.later.Later.{Later}
 use Rattle.timefd_web.specs.Objects.{accepted_object, refused_object}

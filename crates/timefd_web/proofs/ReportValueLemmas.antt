@@ -8,7 +8,7 @@ use Rattle.json.specs.Lex.{Lexeme, token, punctuate, fresh, after_value}
 use Rattle.json.specs.Strict.{HasUniqueKeys}
 use Rattle.json.specs.Tree.{depth, json_tokens, items_tokens, members_tokens}
 use Rattle.json.specs.Value.{items_of}
-use Rattle.timefd_lang_component.specs.Tree.{Text}
+use Rattle.timefd_parse.specs.Tree.{Text}
 use Rattle.timefd_lint_explain.specs.declared.explain.Explanation.{Explanation}
 use Rattle.timefd_lint_explain.specs.declared.node.ShownNode.{ShownNode}
 use Rattle.timefd_web.specs.JsonLaws.Logs.{All}

@@ -1,6 +1,6 @@
 -- What is reported about formats of other languages.
 use Rattle.std.specs.Prelude.{ℕ, ◌≡◌, ◌++◌, List, [], codes, Result, Ok, Err, string_bytes}
-use Rattle.timefd_lang_component.specs.Tree.{Text}
+use Rattle.timefd_parse.specs.Tree.{Text}
 use Rattle.timefd_lang_dialect.specs.Answers.{IsConverted, IsRefusedFor}
 use Rattle.timefd_lang_dialect.specs.Back.{IsFormatOf, IsLackIn}
 use Rattle.timefd_lang_dialect.specs.Items.{IsSpelledBy}

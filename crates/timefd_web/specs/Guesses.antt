@@ -1,7 +1,7 @@
 -- What is reported about texts whose description is looked for.
 use Rattle.std.specs.Prelude.{ℕ, ◌≡◌, ◌++◌, All, List, [], codes, length}
 use Rattle.std.specs.Str.Lines.{lines}
-use Rattle.timefd_lang_component.specs.Tree.{Text}
+use Rattle.timefd_parse.specs.Tree.{Text}
 use Rattle.timefd_lint_drawing.specs.Json.{text_field, number_field}
 use Rattle.timefd_description.specs.Guessing.Candidates.{all_entries}
 use Rattle.timefd_description.specs.Guessing.Found.{AreGuesses, ReadsBack}

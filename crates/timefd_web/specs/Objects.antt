@@ -2,7 +2,7 @@
 use Rattle.std.specs.Prelude.{ℕ, ◌++◌, [], Option, Some, None, codes, string_bytes}
 use Rattle.std.specs.declared.alloc.Global.{Global}
 use Rattle.std.specs.declared.string.String.{String}
-use Rattle.timefd_lang_component.specs.Tree.{Text}
+use Rattle.timefd_parse.specs.Tree.{Text}
 use Rattle.timefd_lint_diagnosis.specs.declared.diagnostic.Diagnostic.{Diagnostic}
 use Rattle.timefd_lint_diagnosis.specs.declared.help.Help.{Help}
 use Rattle.timefd_lint_diagnosis.specs.declared.help.Help.TheVariants.{Words, LeaveOut, Advice}
@@ -13,7 +13,7 @@ use Rattle.timefd_lint_explain.specs.declared.explain.Explanation.{Explanation}
 use Rattle.timefd_lint_explain.specs.declared.node.ShownNode.{ShownNode}
 use Rattle.timefd_lint_explain.specs.declared.node.NodeKind.{NodeKind}
 use Rattle.timefd_lint_explain.specs.declared.node.NodeKind.TheVariants as kinds
-use Rattle.timefd_lang_fault.specs.Sentences.{error_sentence}
+use Rattle.timefd_parse.specs.Sentences.{error_sentence}
 use Rattle.timefd_web.specs.declared.later.Later.{Later}
 use Rattle.timefd_web.specs.declared.refused.RefusedObject.{RefusedObject}
 use Rattle.timefd_web.specs.Records.{listed}

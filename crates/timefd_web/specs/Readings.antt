@@ -1,13 +1,13 @@
 -- The report on a text that is read by a description.
 use Rattle.std.specs.Prelude.{◌≡◌, ◌++◌, List, [], codes, Result, Ok, Err}
-use Rattle.timefd_lang_component.specs.Tree.{Text, Tree}
+use Rattle.timefd_parse.specs.Tree.{Text, Tree}
 use Rattle.timefd_lint_drawing.specs.Json.{text_field, number_field}
-use Rattle.timefd_lang_fault.specs.Faults.{Fault}
+use Rattle.timefd_parse.specs.Faults.{Fault}
 use Rattle.timefd_date_format.specs.Sentences.{name}
-use Rattle.timefd_language.specs.Grammar.{nesting_limit}
+use Rattle.timefd_parse.specs.Grammar.{nesting_limit}
 use Rattle.timefd_date_moment.specs.Display.{moment_text}
 use Rattle.timefd_date_moment.specs.declared.moment.Moment.{Moment}
-use Rattle.timefd_language.specs.declared.description_version.Language.{Language}
+use Rattle.timefd_parse.specs.LanguageType.{Language}
 use Rattle.timefd_parse.specs.Language.{SpellsIn, FaultIn}
 use Rattle.timefd_date_moment.specs.declared.fields.fault.ReadError.{ReadError}
 use Rattle.timefd_date_moment.specs.declared.fields.fault.UnreadReason.{UnreadReason}

@@ -1,6 +1,6 @@
 -- Objects in a list, and fields that are true or false.
 use Rattle.std.specs.Prelude.{◌++◌, Bool, true, false, List, [], ◌∷◌, codes, flat_map}
-use Rattle.timefd_lang_component.specs.Tree.{Text}
+use Rattle.timefd_parse.specs.Tree.{Text}
 
 -- an object after a comma
 abbrev pub after_comma : {X : Type 0} → (X → Text) → X → Text

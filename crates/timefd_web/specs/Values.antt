@@ -2,7 +2,7 @@
 use Rattle.std.specs.Prelude.{ℕ, Bool, true, false, List, codes, map, string_bytes, IsUtf8}
 use Rattle.json.specs.Json.{Json, boolean, array, object, Members, no_members, member}
 use Rattle.json.specs.Value.{items_of}
-use Rattle.timefd_lang_component.specs.Tree.{Text}
+use Rattle.timefd_parse.specs.Tree.{Text}
 use Rattle.timefd_lang_dialect.specs.Reasons as reasons
 use Rattle.timefd_lang_dialect.specs.TrapWords as words
 use Rattle.timefd_lang_dialect.specs.declared.error.RefusedPart.{RefusedPart}

@@ -1,8 +1,8 @@
 //! The report on a text that is accepted.
 
 ghost use Rattle.std.specs.Prelude.{◌≡◌, ◌++◌, List, IfOk, OnOk};
-ghost use Rattle.timefd_lang_component.specs.Tree.{Tree};
-ghost use Rattle.timefd_language.specs.Grammar.{nesting_limit};
+ghost use Rattle.timefd_parse.specs.Tree.{Tree};
+ghost use Rattle.timefd_parse.specs.Grammar.{nesting_limit};
 ghost use Rattle.timefd_parse.specs.Language.{SpellsIn};
 ghost use Rattle.timefd_web.specs.Objects as spec;
 ghost use Rattle.timefd_web.specs.Reports.{IsAccepted};

@@ -1,12 +1,12 @@
 //! The texts of a description in later versions.
 
 ghost use Rattle.std.specs.Prelude.{List, IfOk, string_bytes};
-ghost use Rattle.timefd_lang_component.specs.Tree.{Tree};
+ghost use Rattle.timefd_parse.specs.Tree.{Tree};
 ghost use Rattle.timefd_lang_convert.specs.Answers.{IsNormalOf, IsPrintedOf};
-ghost use Rattle.timefd_language.specs.Grammar.{Spells, nesting_limit};
-ghost use Rattle.timefd_language.specs.Strftime.{SpellsStrftime};
-ghost use Rattle.timefd_lang_fault.specs.BorrowedFaults.{IsMemory};
-ghost use Rattle.timefd_language.specs.declared.description_version.DescriptionVersion.TheVariants.{One, Two, Three};
+ghost use Rattle.timefd_parse.specs.Grammar.{Spells, nesting_limit};
+ghost use Rattle.timefd_parse.specs.Strftime.{SpellsStrftime};
+ghost use Rattle.timefd_parse.specs.BorrowedFaults.{IsMemory};
+ghost use Rattle.timefd_parse.specs.DescriptionVersion.TheVariants.{One, Two, Three};
 ghost use Rattle.timefd_lift.specs.Modernized.{IsWrittenOf};
 ghost use Rattle.timefd_parse.specs.Language.{SpellsIn};
 ghost use Rattle.timefd_web.specs.Reports.{IsLater};

@@ -1,9 +1,9 @@
 //! What a text writes of a moment.
 
 ghost use Rattle.std.specs.Prelude.{List, IfOk};
-ghost use Rattle.timefd_lang_component.specs.Tree.{Tree, trees};
+ghost use Rattle.timefd_parse.specs.Tree.{Tree, trees};
 ghost use Rattle.timefd_date_format.specs.Written.{written_all};
-ghost use Rattle.timefd_language.specs.Grammar.{nesting_limit};
+ghost use Rattle.timefd_parse.specs.Grammar.{nesting_limit};
 ghost use Rattle.timefd_parse.specs.Language.{SpellsIn};
 ghost use Rattle.timefd_web.specs.Reports.{IsTextOf, IsWritten};
 

@@ -1,7 +1,7 @@
 -- Descriptions that dates and times are often written by, likeliest first.
 use Rattle.std.specs.Prelude.{codes, List, [], ◌∷◌, ◌++◌, Option, Some, None}
 use denote.Ref.{Bor}
-use Rattle.timefd_lang_component.specs.Tree.{Text}
+use Rattle.timefd_parse.specs.Tree.{Text}
 use Rattle.timefd_description.specs.declared.guessing.candidate.Candidate.{Candidate}
 use Rattle.timefd_description.specs.declared.guessing.candidates.Group.{Group}
 use Rattle.timefd_description.specs.declared.guessing.candidates.Group.TheVariants.{Rfc3339, Iso8601, Spaced, Compact, Mail, Programs, Servers, Named, Local, Unix, Times}

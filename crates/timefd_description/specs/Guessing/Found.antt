@@ -1,7 +1,7 @@
 -- Which candidates read all texts and write them back.
 use Rattle.std.specs.Prelude.{ℕ, ◌≡◌, ◌⊎◌, ◌+◌, ◌++◌, Bool, true, false, All, List, [], ◌∷◌, take, Option, Some, None, Result, Ok, Err, ⊤}
 use denote.Ref.{Bor}
-use Rattle.timefd_lang_component.specs.Tree.{Text, Tree, pack}
+use Rattle.timefd_parse.specs.Tree.{Text, Tree, pack}
 use Rattle.timefd_lang_fault.specs.Faults.{Fault}
 use Rattle.timefd_date_format.specs.Written.{written}
 use Rattle.timefd_description.specs.Guessing.Candidates.{Entry}

@@ -2,7 +2,7 @@
 use Rattle.std.specs.Prelude.{ℕ, ◌-◌, codes, length, take, nat_eq, if◌then◌else◌, Option, Some, None}
 use Rattle.std.specs.Char.{is_ascii_whitespace}
 use Rattle.std.specs.List.{ends_with, suffix_len}
-use Rattle.timefd_lang_component.specs.Tree.{Text}
+use Rattle.timefd_parse.specs.Tree.{Text}
 use Rattle.timefd_lint.specs.declared.manual.call.UnversionedCall.{UnversionedCall}
 use Rattle.timefd_lint.specs.declared.manual.call.UnversionedCall.TheVariants.{Parse, ParseBorrowed, ParseOwned}
 

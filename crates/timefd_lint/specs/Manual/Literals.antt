@@ -2,7 +2,7 @@
 use Rattle.std.specs.Prelude.{ℕ, ◌≡◌, ◌≤◌, ◌-◌, ◌⊎◌, false, [], ◌++◌, length, slice_range, Option, Some, None, IfSome, IsUtf8}
 use Rattle.std.specs.Fmt.{debug_str}
 use Rattle.std.specs.Str.{IsCharBoundary}
-use Rattle.timefd_lang_component.specs.Tree.{Text}
+use Rattle.timefd_parse.specs.Tree.{Text}
 use Rattle.timefd_lint_scan.specs.declared.description.SourceDescription.{SourceDescription}
 use Rattle.timefd_lint_scan.specs.Literals.{body_end, inside}
 use Rattle.timefd_lint_scan.specs.Written.{IsBodyFor, has_body}

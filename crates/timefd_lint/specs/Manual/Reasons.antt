@@ -1,6 +1,6 @@
 -- Why a description stays, in words.
 use Rattle.std.specs.Prelude.{codes, ◌++◌, Option, Some, None}
-use Rattle.timefd_lang_component.specs.Tree.{Text}
+use Rattle.timefd_parse.specs.Tree.{Text}
 use Rattle.timefd_lint_scan.specs.declared.description.SourceDescription.{SourceDescription}
 use Rattle.timefd_lint_scan.specs.declared.version.VersionPosition.{VersionPosition}
 use Rattle.timefd_lint_scan.specs.declared.version.VersionPosition.TheVariants as positions

@@ -3,7 +3,7 @@ use Rattle.std.proofs.Common.{ℕ, suc, ◌≡◌, ◌≤◌, ◌==◌, ◌+◌,
 use Rattle.std.proofs.lemmas.Bool.{le-leb, ltb-false, true≢false}
 use Rattle.std.specs.Prelude.{nat_lt, not, ◌&&◌, ◌||◌, if◌then◌else◌}
 use Rattle.std.specs.Str.{IsCharBoundary}
-use Rattle.timefd_lang_component.specs.Tree.{Text}
+use Rattle.timefd_parse.specs.Tree.{Text}
 use Rattle.timefd_lint_lsp.specs.Editor.Positions.{goes_on, index_of, is_line_end, is_second, passed, start, step, stops_at}
 use Rattle.timefd_lint_lsp.specs.declared.editor.position.DocumentPosition.{DocumentPosition}
 use Rattle.timefd_lint_lsp.specs.declared.editor.walk.CountingWalk.{CountingWalk}

@@ -1,7 +1,7 @@
 -- Edits that rewrite a description.
 use Rattle.std.proofs.Common.{ℕ, ◌≡◌, Option, None, Some, List, [], ◌∷◌, ◌++◌, refl, sym, subst}
 use Rattle.std.specs.Prelude.{OnOk, Result, Ok, Err, string_bytes}
-use Rattle.timefd_lang_component.specs.Tree.{Text}
+use Rattle.timefd_parse.specs.Tree.{Text}
 use Rattle.timefd_lint_lsp.proofs.EditorLemmas.EachLemmas.{both_added, none_added}
 use Rattle.timefd_lint_lsp.specs.declared.editor.action.Edit.{Edit}
 use Rattle.timefd_lint_lsp.specs.Editor.Each.{Adds}

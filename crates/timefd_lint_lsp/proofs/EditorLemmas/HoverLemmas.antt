@@ -2,7 +2,7 @@
 use Rattle.std.proofs.Common.{ℕ, ◌≡◌, Bool, true, false, List, [], ◌∷◌, Option, None, Some, inl, inr, refl, sym, subst, ◌∙◌}
 use Rattle.std.proofs.lemmas.List.Elements.{All-head, All-tail}
 use Rattle.std.specs.Prelude.{IfOk, IfSome, IsTrue, IsUtf8, Result, Ok, Err, if◌then◌else◌}
-use Rattle.timefd_lang_component.specs.Tree.{Text, Tree}
+use Rattle.timefd_parse.specs.Tree.{Text, Tree}
 use Rattle.timefd_lint_lsp.specs.declared.editor.hovering.Hover.{Hover}
 use Rattle.timefd_lint_lsp.specs.Editor.FaultHovers.{IsFaultHover, is_at_fault}
 use Rattle.timefd_lint_lsp.specs.Editor.GoodFronts.{IsGoodFront}

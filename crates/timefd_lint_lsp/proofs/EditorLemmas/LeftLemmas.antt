@@ -3,7 +3,7 @@ use Rattle.std.proofs.Common.{◌≡◌, ◌++◌, List, [], Option, Result, Ok,
 use Rattle.std.specs.Prelude.{IfOk, OnOk}
 use Rattle.std.specs.declared.alloc.Global.{Global}
 use Rattle.std.specs.declared.vec.Vec.{Vec}
-use Rattle.timefd_lang_component.specs.Tree.{Text}
+use Rattle.timefd_parse.specs.Tree.{Text}
 use Rattle.timefd_lint_scan.specs.declared.description.SourceDescription.{SourceDescription}
 use Rattle.timefd_lang_warnings.specs.declared.levels.Levels.{Levels}
 use Rattle.timefd_lint_sources.specs.declared.reported.SourceText.{SourceText}

@@ -3,7 +3,7 @@ use Rattle.std.proofs.Common.{ℕ, ◌≡◌, ◌<◌, ◌≤◌, ◌+◌, cond,
 use Rattle.std.proofs.lemmas.List.{drop_all, drop_more, map-append}
 use Rattle.std.specs.Borrow.{Bor}
 use Rattle.std.specs.List.{filter}
-use Rattle.timefd_lang_component.specs.Tree.{Text}
+use Rattle.timefd_parse.specs.Tree.{Text}
 use Rattle.timefd_lint_diagnosis.specs.Words.{texts}
 
 kept : (test : Text → Bool) (word : Text) (t : Bool) → test word ≡ t → filter test (word ∷ []) ≡ cond t (word ∷ []) []

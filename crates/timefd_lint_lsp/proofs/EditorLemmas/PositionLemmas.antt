@@ -4,7 +4,7 @@ use Rattle.std.specs.Prelude.{not, ◌&&◌, ◌||◌, nat_lt, if◌then◌else�
 use Rattle.std.proofs.lemmas.Bool.{cases_Bool, le-ltb, lt-ltb}
 use Rattle.std.proofs.lemmas.List.{take_at, get_or_at, get_or_past}
 use Rattle.timefd_lint_lsp.proofs.EditorLemmas.WalkLemmas.{char_start_at}
-use Rattle.timefd_lang_component.specs.Tree.{Text}
+use Rattle.timefd_parse.specs.Tree.{Text}
 use Rattle.timefd_lint_lsp.specs.Editor.Positions.{RoundTrip, begins, capped, char_start, ends_with_return, goes_on, is_line_end, is_second, passed, start, step, stops_at, units, walked}
 use Rattle.timefd_lint_lsp.specs.declared.editor.position.DocumentPosition.{DocumentPosition}
 use Rattle.timefd_lint_lsp.specs.declared.editor.walk.CountingWalk.{CountingWalk}

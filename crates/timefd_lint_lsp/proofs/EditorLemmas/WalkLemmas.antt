@@ -1,7 +1,7 @@
 -- A walk through a text.
 use Rattle.std.proofs.Common.{ℕ, zero, suc, ◌≡◌, ◌<◌, ◌≤◌, ◌-◌, true, false, [], ◌∷◌, ◌++◌, take, drop, get_or, refl, sym, arith}
 use native.Mathlib.Numerals.{unary_clauses}
-use Rattle.timefd_lang_component.specs.Tree.{Text}
+use Rattle.timefd_parse.specs.Tree.{Text}
 use Rattle.timefd_lint_lsp.specs.Editor.Positions.{char_start, goes_on, step, walked}
 use Rattle.timefd_lint_lsp.specs.declared.editor.walk.CountingWalk.{CountingWalk}
 

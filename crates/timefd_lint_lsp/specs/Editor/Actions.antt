@@ -1,6 +1,6 @@
 -- What can be done to the descriptions of a source.
 use Rattle.std.specs.Prelude.{ℕ, ◌≡◌, ◌&&◌, ◌⊎◌, Bool, true, false, nat_le, List, [], ◌∷◌, ◌++◌, codes, Option, string_bytes}
-use Rattle.timefd_lang_component.specs.Tree.{Text}
+use Rattle.timefd_parse.specs.Tree.{Text}
 use Rattle.timefd_lint_lsp.specs.declared.editor.action.Action.{Action}
 use Rattle.timefd_lint_lsp.specs.declared.editor.action.ActionKind.{ActionKind}
 use Rattle.timefd_lint_lsp.specs.declared.editor.action.ActionKind.TheVariants.{QuickFix, Guess, Rewrite}

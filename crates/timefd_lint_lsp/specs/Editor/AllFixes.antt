@@ -1,6 +1,6 @@
 -- One action that fixes all descriptions of a document.
 use Rattle.std.specs.Prelude.{◌≡◌, ◌⊎◌, List, [], ◌∷◌, codes, Option, None, Some, IsUtf8, string_bytes, ⊤}
-use Rattle.timefd_lang_component.specs.Tree.{Text}
+use Rattle.timefd_parse.specs.Tree.{Text}
 use Rattle.timefd_lint_lsp.specs.declared.editor.action.Action.{Action}
 use Rattle.timefd_lint_lsp.specs.declared.editor.action.ActionKind.TheVariants.{FixAll}
 use Rattle.timefd_lint_lsp.specs.declared.editor.action.Edit.{Edit}

@@ -1,7 +1,7 @@
 -- The words that may be written at a cursor in a description.
 use Rattle.std.specs.Prelude.{ℕ, ◌≡◌, ◌⊎◌, Bool, ◌&&◌, nat_le, List, [], ◌∷◌, length, Option, Some, None, take, drop, if◌then◌else◌, IsUtf8}
 use Rattle.std.specs.Str.{IsCharBoundary}
-use Rattle.timefd_lang_component.specs.Tree.{Text}
+use Rattle.timefd_parse.specs.Tree.{Text}
 use Rattle.timefd_lang_fault.specs.declared.rule.Slot.{Slot}
 use Rattle.timefd_lint_diagnosis.specs.Words.{texts}
 use Rattle.timefd_language.specs.Bytes.{is_version_three}

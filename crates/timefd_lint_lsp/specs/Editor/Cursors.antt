@@ -1,7 +1,7 @@
 -- The text of a description before a cursor.
 use Rattle.std.specs.Prelude.{ℕ, ◌+◌, ◌==◌, nat_lt, List, [], ◌∷◌, Option, Some, None, if◌then◌else◌}
 use Rattle.std.specs.List.{prefix_len}
-use Rattle.timefd_lang_component.specs.Tree.{Text}
+use Rattle.timefd_parse.specs.Tree.{Text}
 use Rattle.timefd_language.specs.Bytes.{is_key_byte}
 use Rattle.timefd_lint_scan.specs.declared.description.SourceDescription.{SourceDescription}
 use Rattle.timefd_lint_scan.specs.Found.{index_in_source}

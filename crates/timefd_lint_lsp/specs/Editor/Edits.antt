@@ -1,6 +1,6 @@
 -- Edits of a document that rewrite a description.
 use Rattle.std.specs.Prelude.{ℕ, ◌≡◌, ◌+◌, ◌-◌, ◌==◌, if◌then◌else◌, List, [], ◌∷◌, ◌++◌, codes, length, Option, None, Some, string_bytes}
-use Rattle.timefd_lang_component.specs.Tree.{Text}
+use Rattle.timefd_parse.specs.Tree.{Text}
 use Rattle.timefd_lint_lsp.specs.declared.editor.action.Edit.{Edit}
 use Rattle.timefd_lint_lsp.specs.Editor.Positions.{capped, range_of}
 use Rattle.timefd_lint_scan.specs.declared.description.SourceDescription.{SourceDescription}

@@ -1,6 +1,6 @@
 -- What is shown for the fault of a description.
 use Rattle.std.specs.Prelude.{ℕ, ◌≡◌, ◌==◌, Bool, false, ◌&&◌, ◌||◌, nat_le, nat_lt, string_bytes}
-use Rattle.timefd_lang_component.specs.Tree.{Text}
+use Rattle.timefd_parse.specs.Tree.{Text}
 use Rattle.timefd_lint_diagnosis.specs.declared.diagnostic.Diagnostic.{Diagnostic}
 use Rattle.timefd_lint_lsp.specs.declared.editor.hovering.Hover.{Hover}
 use Rattle.timefd_lint_lsp.specs.Editor.Findings.{fault_words}

@@ -1,6 +1,6 @@
 -- One thing that is wrong in a document, and what is reported about a description as a whole.
 use Rattle.std.specs.Prelude.{ℕ, ◌≡◌, List, [], ◌∷◌, codes, string_bytes}
-use Rattle.timefd_lang_component.specs.Tree.{Text}
+use Rattle.timefd_parse.specs.Tree.{Text}
 use Rattle.timefd_lint_lsp.specs.declared.editor.finding.Finding.{Finding}
 use Rattle.timefd_lint_lsp.specs.declared.editor.finding.Severity.{Severity}
 use Rattle.timefd_lint_lsp.specs.declared.editor.finding.Severity.TheVariants.{Error, Warning}

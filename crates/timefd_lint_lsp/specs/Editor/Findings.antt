@@ -1,9 +1,9 @@
 -- All that is wrong in a document.
 use Rattle.std.specs.Prelude.{◌≡◌, ◌⊎◌, Bool, true, false, List, [], ◌++◌, Option, IsUtf8, ◌∷◌, flat_map, if◌then◌else◌}
-use Rattle.timefd_lang_component.specs.Tree.{Text}
+use Rattle.timefd_parse.specs.Tree.{Text}
 use Rattle.timefd_lint_diagnosis.specs.declared.diagnostic.Diagnostic.{Diagnostic}
 use Rattle.timefd_lint_drawing.specs.HelpText.{help_text}
-use Rattle.timefd_lint_drawing.specs.Sarif.{with_help}
+use Rattle.timefd_lint_drawing.specs.Findings.{with_help}
 use Rattle.timefd_lang_fault.specs.Codes.{code_of, name_of}
 use Rattle.timefd_lint_drawing.specs.Sentence.{reported_sentence}
 use Rattle.timefd_lint_lsp.specs.declared.editor.finding.Finding.{Finding}

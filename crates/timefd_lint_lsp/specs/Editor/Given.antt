@@ -1,6 +1,6 @@
 -- The keys that a bracket already has.
 use Rattle.std.specs.Prelude.{ℕ, ◌==◌, Bool, true, false, ◌&&◌, ◌||◌, nat_le, nat_lt, List, [], ◌∷◌, length, slice_index, take, if◌then◌else◌}
-use Rattle.timefd_lang_component.specs.Tree.{Text}
+use Rattle.timefd_parse.specs.Tree.{Text}
 use Rattle.timefd_language.specs.Bytes.{colon, is_special, is_white, left, same}
 
 -- whether a text begins with a word, as the version compares words

@@ -1,7 +1,7 @@
 -- The words that may be written where a name, a key or a value is begun.
 use Rattle.std.specs.Prelude.{Bool, true, not, ◌&&◌, ◌||◌, List}
 use Rattle.std.specs.List.{filter}
-use Rattle.timefd_lang_component.specs.Tree.{Text}
+use Rattle.timefd_parse.specs.Tree.{Text}
 use Rattle.timefd_lang_fault.specs.declared.rule.Slot.{Slot}
 use Rattle.timefd_lang_fault.specs.declared.rule.Slot.TheVariants as slots
 use Rattle.timefd_language.specs.Slots.{words_at}

@@ -1,6 +1,6 @@
 -- What a word is at the end of a text.
 use Rattle.std.specs.Prelude.{◌≡◌, Bool, true, false, Option, Some, None, codes}
-use Rattle.timefd_lang_component.specs.Tree.{Text}
+use Rattle.timefd_parse.specs.Tree.{Text}
 use Rattle.timefd_lang_fault.specs.declared.rule.Slot.{Slot}
 use Rattle.timefd_lang_fault.specs.declared.rule.Slot.TheVariants as slots
 use Rattle.timefd_language.specs.Slots.{IsSlotAfter}

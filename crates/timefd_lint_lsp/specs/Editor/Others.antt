@@ -1,11 +1,11 @@
 -- What is wrong with a format of another language or library.
 use Rattle.std.specs.Prelude.{List}
-use Rattle.timefd_lang_component.specs.Tree.{Text}
+use Rattle.timefd_parse.specs.Tree.{Text}
 use Rattle.timefd_lang_dialect.specs.declared.error.RefusedPart.{RefusedPart}
 use Rattle.timefd_lang_dialect.specs.declared.trapping.Found.{Found}
 use Rattle.timefd_lang_dialect.specs.Reasons as reasons
 use Rattle.timefd_lang_dialect.specs.TrapWords as traps
-use Rattle.timefd_lint_drawing.specs.Sarif.{with_help}
+use Rattle.timefd_lint_drawing.specs.Findings.{with_help}
 use Rattle.timefd_lint_lsp.specs.declared.editor.finding.Finding.{Finding}
 use Rattle.timefd_lint_lsp.specs.declared.editor.finding.Severity.TheVariants.{Error, Warning}
 use Rattle.timefd_lint_lsp.specs.Editor.Finding.{IsOne}

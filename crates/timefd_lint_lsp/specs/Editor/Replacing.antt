@@ -1,6 +1,6 @@
 -- A document in which an editor replaces a range.
 use Rattle.std.specs.Prelude.{ℕ, Bool, ◌&&◌, nat_le, if◌then◌else◌, Option, Some, None, ◌++◌, take, drop}
-use Rattle.timefd_lang_component.specs.Tree.{Text}
+use Rattle.timefd_parse.specs.Tree.{Text}
 use Rattle.timefd_lint_lsp.specs.declared.editor.position.DocumentRange.{DocumentRange}
 use Rattle.timefd_lint_lsp.specs.Editor.Positions.{index_of, start, walked}
 

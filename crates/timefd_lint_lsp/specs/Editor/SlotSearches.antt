@@ -1,7 +1,7 @@
 -- How it is found what a word after a text should be, by what precedes it.
 use Rattle.std.specs.Prelude.{ℕ, ◌≡◌, ◌==◌, Bool, not, List, ◌∷◌, ◌++◌, Option, MatchOption}
 use Rattle.std.specs.Borrow.{Bor}
-use Rattle.timefd_lang_component.specs.Tree.{Text}
+use Rattle.timefd_parse.specs.Tree.{Text}
 use Rattle.timefd_language.specs.Bytes.{left, is_word_byte, ZeroOrMore, StopsBefore}
 use Rattle.timefd_language.specs.Head.{Head, Modifier, IsModifier, AreModifiers, modifier_text, modifiers_text}
 use Rattle.timefd_language.specs.Slots.{EndsInHead}

@@ -9,8 +9,7 @@ use crate::editor::finding::{DocumentSpot, Finding, Severity, push};
 use std::alloc::{AllocError, Global};
 use timefd_lint_diagnosis::{Diagnostic, code_of};
 use timefd_lint_drawing::help_text::help_text;
-use timefd_lint_drawing::reported_sentence;
-use timefd_lint_drawing::sarif::with_help;
+use timefd_lint_drawing::{reported_sentence, with_help};
 use timefd_lint_scan::index_in_source;
 
 /// Adds the first one of these faults of a description, and then its further ones. An `Err` says that memory ran out.

@@ -3,7 +3,7 @@
 ghost use Rattle.std.specs.Prelude.{◌≡◌, IfOk, OnOk, string_bytes};
 ghost use Rattle.timefd_lang_dialect.specs.Reasons as reasons;
 ghost use Rattle.timefd_lang_dialect.specs.TrapWords as trap_words;
-ghost use Rattle.timefd_lint_drawing.specs.Sarif.{with_help as helped};
+ghost use Rattle.timefd_lint_drawing.specs.Findings.{with_help as helped};
 ghost use Rattle.timefd_lint_lsp.specs.Editor.Each.{Adds, AreOf};
 ghost use Rattle.timefd_lint_lsp.specs.Editor.Others.{IsRefusal, IsTrap};
 ghost use Rattle.timefd_lint_lsp.specs.Editor.Positions.{IsCounted};
@@ -11,7 +11,7 @@ ghost use Rattle.timefd_lint_lsp.specs.Editor.Positions.{IsCounted};
 use crate::editor::finding::{DocumentSpot, Finding, Severity, push};
 use std::alloc::{AllocError, Global};
 use timefd_lang_dialect::{Found, RefusedPart};
-use timefd_lint_drawing::sarif::with_help;
+use timefd_lint_drawing::with_help;
 use timefd_lint_scan::index_in_source;
 
 /// Adds a part that is refused. Where it ends isn't known, so the finding is where it begins. An `Err` says that memory ran

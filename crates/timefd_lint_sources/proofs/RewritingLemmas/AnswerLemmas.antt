@@ -1,11 +1,11 @@
 -- What one description is fixed or converted to.
 use Rattle.std.proofs.Common.{ℕ, ◌≡◌, ◌≢◌, true, false, inl, inr, refl, sym, subst, ◌∙◌}
 use Rattle.std.specs.Prelude.{IsUtf8, Option, None, Some}
-use Rattle.timefd_lang_component.specs.Tree.{Text}
-use Rattle.timefd_lang_fault.specs.declared.invalid_format_description.InvalidFormatDescription.{InvalidFormatDescription}
-use Rattle.timefd_lang_fault.specs.Faults.{Fault, fault_of}
-use Rattle.timefd_lang_fault.specs.declared.borrowed_parse_error.ParseError.{ParseError}
-use Rattle.timefd_lang_fault.specs.declared.borrowed_parse_error.ParseError.TheVariants.{Invalid}
+use Rattle.timefd_parse.specs.Tree.{Text}
+use Rattle.timefd_parse.specs.InvalidFormatDescription.{InvalidFormatDescription}
+use Rattle.timefd_parse.specs.Faults.{Fault, fault_of}
+use Rattle.timefd_parse.specs.ParseError.{ParseError}
+use Rattle.timefd_parse.specs.ParseError.TheVariants.{Invalid}
 use Rattle.timefd_language.specs.declared.description_version.DescriptionVersion.{DescriptionVersion}
 use Rattle.timefd_lint_rewrite.specs.declared.layout.Layout.{Layout}
 use Rattle.timefd_lint_rewrite.specs.Layouts.{IsConverted, IsRefusal, IsRefusedFor}

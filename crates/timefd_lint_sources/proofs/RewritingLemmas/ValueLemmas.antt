@@ -4,7 +4,7 @@ use Rattle.std.specs.Prelude.{◌≢◌, IsUtf8, Option, None, Some}
 use Rattle.std.proofs.lemmas.List.{append_assoc, append-nil, drop_all, drop_more}
 use Rattle.std.specs.declared.alloc.Global.{Global}
 use Rattle.std.specs.declared.vec.Vec.{Vec}
-use Rattle.timefd_lang_component.specs.Tree.{Text}
+use Rattle.timefd_parse.specs.Tree.{Text}
 use Rattle.timefd_lint_rewrite.specs.LineChanges.{IsChanged, IsUnchangeable}
 use Rattle.timefd_lint_rewrite.specs.declared.line_change.LineChange.{LineChange}
 use Rattle.timefd_lint_scan.specs.declared.description.SourceDescription.{SourceDescription}

@@ -2,10 +2,10 @@
 -- item is set aside, with a mark at its position, while the text around it is converted.
 use Rattle.std.specs.Prelude.{ℕ, zero, suc, ◌≡◌, ◌==◌, ◌⊎◌, Bool, List, [], ◌∷◌, ◌++◌, codes, decimal, length, Option, None, Some, IsFalse}
 use Rattle.std.specs.List.{list_any}
-use Rattle.timefd_lang_component.specs.Tree.{Text, Tree}
+use Rattle.timefd_parse.specs.Tree.{Text, Tree}
 use Rattle.timefd_lang_convert.specs.declared.conversion.Conversion.{Conversion}
 use Rattle.timefd_lang_convert.specs.declared.conversion.Conversion.TheVariants.{OneToTwo, OneToThree, TwoToThree, ThreeToThree, StrftimeToThree}
-use Rattle.timefd_lang_fault.specs.Faults.{Fault}
+use Rattle.timefd_parse.specs.Faults.{Fault}
 use Rattle.timefd_language.specs.Bytes.{left, right, is_white, ZeroOrMore}
 use Rattle.timefd_language.specs.Grammar.{nesting_limit}
 use Rattle.timefd_language.specs.declared.description_version.DescriptionVersion.{DescriptionVersion}

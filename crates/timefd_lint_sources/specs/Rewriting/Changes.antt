@@ -1,6 +1,6 @@
 -- How the descriptions of a source are laid out, and which versions they have then.
 use Rattle.std.specs.Prelude.{ℕ, ◌==◌, Option, None, Some, option_map, if◌then◌else◌}
-use Rattle.timefd_lang_component.specs.Tree.{Text}
+use Rattle.timefd_parse.specs.Tree.{Text}
 use Rattle.timefd_lang_convert.specs.declared.conversion.Conversion.{Conversion}
 use Rattle.timefd_lang_convert.specs.Conversions.{conversion_between}
 use Rattle.timefd_language.specs.declared.description_version.DescriptionVersion.{DescriptionVersion}

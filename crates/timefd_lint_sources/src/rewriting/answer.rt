@@ -2,7 +2,7 @@
 
 ghost use Rattle.std.specs.Prelude.{◌≡◌, ◌≢◌, IfOk, IsTrue, IsUtf8, None};
 ghost use Rattle.timefd_lint_sources.specs.Judged.{text_of};
-ghost use Rattle.timefd_lang_fault.specs.Faults.{Fault};
+ghost use Rattle.timefd_parse.specs.Faults.{Fault};
 ghost use Rattle.timefd_lint_rewrite.specs.Layouts.{IsConverted, IsRefusedFor};
 ghost use Rattle.timefd_lint_sources.specs.Rewriting.Changes as changes;
 ghost use Rattle.timefd_lint_sources.specs.Rewriting.Written.{Becoming, IsAnswer, IsLaidOutBy, is_sayable, line_ends, old_line_ends};

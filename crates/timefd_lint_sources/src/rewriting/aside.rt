@@ -2,7 +2,7 @@
 //! position, while the text around it is converted.
 
 ghost use Rattle.std.specs.Prelude.{◌≡◌, IfOk, IfSome, None, Some, string_bytes, true};
-ghost use Rattle.timefd_lang_component.specs.Tree.{Text};
+ghost use Rattle.timefd_parse.specs.Tree.{Text};
 ghost use Rattle.timefd_lint_rewrite.specs.Layouts.{IsConverted};
 ghost use Rattle.timefd_lint_sources.specs.Rewriting.Aside as spec;
 

@@ -1,7 +1,7 @@
 //! An item like `[optional [..]]` or `[first [..] [..]]`, with what it nests converted.
 
 ghost use Rattle.std.specs.Prelude.{◌≡◌, IfOk, IfSome, None, Some, string_bytes};
-ghost use Rattle.timefd_lang_component.specs.Tree.{Text};
+ghost use Rattle.timefd_parse.specs.Tree.{Text};
 ghost use Rattle.timefd_parse.specs.BracketParts.{BeginsNested};
 ghost use Rattle.timefd_lint_sources.specs.Rewriting.Aside.{AreNestsConverted, IsItemConverted, IsNestConverted};
 

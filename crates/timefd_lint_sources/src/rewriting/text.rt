@@ -1,7 +1,7 @@
 //! The text that a description becomes in a layout.
 
 ghost use Rattle.std.specs.Prelude.{◌≡◌, IfOk, IfSome, None, string_bytes};
-ghost use Rattle.timefd_lang_fault.specs.Faults.{Fault};
+ghost use Rattle.timefd_parse.specs.Faults.{Fault};
 ghost use Rattle.timefd_lint_rewrite.specs.Layouts.{IsRefusedFor};
 ghost use Rattle.timefd_lint_sources.specs.Judged.{text_of};
 ghost use Rattle.timefd_lint_sources.specs.Rewriting.Written.{BecomesBy};

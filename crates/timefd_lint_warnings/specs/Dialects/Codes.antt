@@ -1,6 +1,6 @@
 -- The codes of what is refused and of traps.
 use Rattle.std.specs.Prelude.{◌≡◌, List, [], ◌∷◌, Option, Some, None, codes, bytes_eq, if◌then◌else◌}
-use Rattle.timefd_lang_component.specs.Tree.{Text}
+use Rattle.timefd_parse.specs.Tree.{Text}
 use Rattle.timefd_lang_dialect.specs.declared.reason.Reason.{Reason}
 use Rattle.timefd_lang_dialect.specs.declared.reason.Reason.TheVariants.{Backslash, Capitals, DatetimeOnly, DayPeriod, Era, Flag, FractionWidth, GmtOffset, HourFrom0Or24, JulianDay, LocalTime, LocalWeek, Locale, NarrowName, OptionalPart, OrdinalSuffix, PadLetter, Platform, Quarter, ReadingOnly, Reserved, TooManyLetters, TwoDigitYear, TwoLetterName, UnclosedQuote, UnitOfDay, UnknownDirective, UnknownLetter, Unsupported, VariableFraction, VariableOffset, VariableWidth, WeekOfMonth, Width, ZForUtc, ZoneName}
 use Rattle.timefd_lang_dialect.specs.declared.trap.Trap.{Trap}

@@ -1,12 +1,9 @@
 -- What the linter says of a format of another language.
-use Rattle.std.specs.Prelude.{ℕ, ◌≡◌, Bool, true, false, List, [], None, Some, flat_map, length}
-use Rattle.timefd_lang_component.specs.Tree.{Text}
-use Rattle.timefd_lang_dialect.specs.declared.dialect.Dialect.{Dialect}
+use Rattle.std.specs.Prelude.{ℕ, None, Some}
+use Rattle.timefd_parse.specs.Tree.{Text}
 use Rattle.timefd_lang_dialect.specs.declared.reason.Reason.{Reason}
 use Rattle.timefd_lang_dialect.specs.declared.trapping.Found.{Found}
-use Rattle.timefd_lang_dialect.specs.Reading.{Piece, Means, RefusedAt}
 use Rattle.timefd_lang_dialect.specs.Reasons as reasons
-use Rattle.timefd_lang_dialect.specs.Traps.{AreTraps}
 use Rattle.timefd_lang_dialect.specs.TrapWords as traps
 use Rattle.timefd_lint_diagnosis.specs.declared.diagnostic.Span.{Span}
 use Rattle.timefd_lint_drawing.specs.declared.draw.Style.{Style}
@@ -15,9 +12,8 @@ use Rattle.timefd_lint_drawing.specs.declared.position.Origin.{Origin}
 use Rattle.timefd_lint_drawing.specs.declared.severity.FindingSeverity.{FindingSeverity}
 use Rattle.timefd_lint_drawing.specs.declared.severity.FindingSeverity.TheVariants.{Error, Warning}
 use Rattle.timefd_lint_drawing.specs.Drawing.{part_at, part_end}
-use Rattle.timefd_lint_drawing.specs.Findings.{Said, drawn_at}
-use Rattle.timefd_lint_warnings.specs.declared.dialects.judging.Judgement.{Judgement}
-use Rattle.timefd_lint_warnings.specs.declared.dialects.judging.Judgement.TheVariants.{Converted, Refused}
+use Rattle.timefd_lint_drawing.specs.Findings.{Said}
+use Rattle.timefd_lint_drawing.specs.Forms.{drawn_at}
 
 -- what is found in a part of a text
 abbrev pub drawn : Style → Origin → Text → Span → Said → Text
@@ -45,29 +41,3 @@ abbrev pub trap_drawn : Style → Origin → Text → Found → Text
 trap_drawn style origin text f =
     drawn style origin text (record { start = f.start; end = f.end })
     (part_said Warning (traps.name f.trap) (traps.sentence f.trap) (traps.cure f.trap))
-
--- a message on each trap, in order, if traps are reported; nothing else
-abbrev pub AreTrapsDrawn : Bool → Style → Origin → Dialect → Text → ℕ → Text → Type 0
-AreTrapsDrawn false style origin dialect text count message = (count ≡ 0) × (message ≡ [])
-AreTrapsDrawn true style origin dialect text count message =
-    (found : List Found) × AreTraps dialect text found × (count ≡ length found)
-    × (message ≡ flat_map (trap_drawn style origin text) found)
-
-abbrev pub IsRefusalDrawn : Style → Origin → Dialect → Text → Text → Type 0
-IsRefusalDrawn style origin dialect text message =
-    (reason : Reason) × (index : ℕ) × RefusedAt dialect text reason index
-    × (message ≡ refusal_drawn style origin text reason index)
-
--- the traps of a format that isn't refused
-abbrev pub IsTrapped : Style → Origin → Bool → Dialect → Text → Judgement → Text → Type 0
-IsTrapped style origin reports dialect text (Converted count) message =
-    AreTrapsDrawn reports style origin dialect text count message
-IsTrapped style origin reports dialect text Refused message = ⊥
-
--- A format is converted if it means something, and its traps are reported. Else the part that is refused is.
-abbrev pub IsJudged : Style → Origin → Bool → Dialect → Text → Judgement → Text → Type 0
-IsJudged style origin reports dialect text (Converted count) message =
-    ((ps : List Piece) × Means dialect text ps)
-    × AreTrapsDrawn reports style origin dialect text count message
-IsJudged style origin reports dialect text Refused message =
-    IsRefusalDrawn style origin dialect text message

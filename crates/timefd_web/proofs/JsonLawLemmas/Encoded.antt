@@ -4,7 +4,7 @@ use Rattle.std.proofs.lemmas.Bool.{cases_Bool, and_parts, lt-ltb}
 use Rattle.std.proofs.lemmas.Str.{IsUtf8-append, IsUtf8-nil, IsUtf8-encode, scalars-chars}
 use Rattle.std.specs.Str.{all_scalars}
 use Rattle.json.proofs.Printed.Utf8.{IsUtf8-are_ascii}
-use Rattle.timefd_lang_component.specs.Tree.{Text}
+use Rattle.timefd_parse.specs.Tree.{Text}
 use Rattle.timefd_lint_drawing.specs.Json.{all_escaped, escaped, hex_digit, quoted, unit, units}
 use Rattle.timefd_lint_drawing.specs.Shown.{is_hidden}
 use lib.Utf8.{scalar, scalar_cases}

@@ -7,7 +7,7 @@ use Rattle.std.specs.Char.{encode_utf8}
 use Rattle.std.specs.Str.{all_scalars, encode_utf8_all}
 use Rattle.json.specs.Text.{content, plain, after_high, prepend, short_escape, is_high_surrogate, is_low_surrogate, surrogate_pair}
 use Rattle.json.specs.Lex.{lex, in_string}
-use Rattle.timefd_lang_component.specs.Tree.{Text}
+use Rattle.timefd_parse.specs.Tree.{Text}
 use Rattle.timefd_lint_drawing.specs.Json.{all_escaped, escaped, unit, units}
 use Rattle.timefd_lint_drawing.specs.Shown.{is_hidden}
 use Rattle.timefd_web.proofs.JsonLawLemmas.Units.{unit_read, low_read, stays, unit_lexed}

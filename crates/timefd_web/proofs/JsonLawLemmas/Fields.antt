@@ -4,7 +4,7 @@ use Rattle.std.proofs.lemmas.Fmt.{IsAscii-decimal}
 use Rattle.std.proofs.lemmas.Str.{IsUtf8-from_ascii}
 use Rattle.json.specs.Token.{string, number}
 use Rattle.json.specs.Lex.{Lexeme, token}
-use Rattle.timefd_lang_component.specs.Tree.{Text}
+use Rattle.timefd_parse.specs.Tree.{Text}
 use Rattle.timefd_lint_drawing.specs.Json.{all_escaped, number_field, text_field}
 use Rattle.timefd_web.proofs.JsonLawLemmas.Encoded.{quoted_utf8}
 use Rattle.timefd_web.proofs.JsonLawLemmas.Escapes.{text_passes}

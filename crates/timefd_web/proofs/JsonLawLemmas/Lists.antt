@@ -6,7 +6,7 @@ use Rattle.json.specs.Lex.{Lexeme, token, comma, punctuate, fresh, after_value, 
 use Rattle.json.specs.Strict.{ItemsHaveUniqueKeys}
 use Rattle.json.specs.Tree.{json_tokens, items_tokens, items_depth}
 use Rattle.json.specs.Value.{items_of}
-use Rattle.timefd_lang_component.specs.Tree.{Text}
+use Rattle.timefd_parse.specs.Tree.{Text}
 use Rattle.timefd_web.proofs.JsonLawLemmas.Pieces.{Lexes, both, no_piece}
 use Rattle.timefd_web.proofs.JsonLawLemmas.Results.{IsNext, alone}
 

@@ -8,7 +8,7 @@ use Rattle.json.specs.Strict.{HasUniqueKeys}
 use Rattle.json.specs.Tree.{json_tokens, items_tokens}
 use Rattle.json.specs.Value.{items_of}
 use Rattle.json.proofs.Printed.Utf8.{IsUtf8-are_ascii}
-use Rattle.timefd_lang_component.specs.Tree.{Text}
+use Rattle.timefd_parse.specs.Tree.{Text}
 use Rattle.timefd_web.specs.JsonLaws.Logs.{Rule, rule, rule_text, rule_value, IsProperRule, All, log, log_value, program, LogsAreJson}
 use Rattle.timefd_web.specs.JsonLaws.Results.{Result, fault, note, result_text, result_value, IsProper}
 use Rattle.timefd_web.proofs.JsonLawLemmas.Distinct.{distinct_keys, unique_keys}

@@ -4,7 +4,7 @@ use Rattle.json.specs.Json.{Json, document, if_last, max_depth, value}
 use Rattle.json.specs.Lex.{Lexeme, lex, punctuate, fresh, tokens}
 use Rattle.json.specs.Tree.{json_tokens, depth}
 use Rattle.json.proofs.Printed.Trees.{value-json_tokens}
-use Rattle.timefd_lang_component.specs.Tree.{Text}
+use Rattle.timefd_parse.specs.Tree.{Text}
 use Rattle.timefd_web.proofs.JsonLawLemmas.Pieces.{Lexes}
 
 pub tokens_of : (text : Text) (ls : List Lexeme) → Lexes text ls → tokens text ≡ punctuate fresh (ls ++ [])

@@ -4,7 +4,7 @@ use Rattle.json.specs.Token.{end_object, boolean}
 use Rattle.json.specs.Lex.{Lexeme, token, punctuate, fresh}
 use Rattle.json.specs.Strict.{HasUniqueKeys}
 use Rattle.json.specs.Tree.{json_tokens, depth}
-use Rattle.timefd_lang_component.specs.Tree.{Text}
+use Rattle.timefd_parse.specs.Tree.{Text}
 use Rattle.timefd_lint_diagnosis.specs.declared.diagnostic.Span.{Span}
 use Rattle.timefd_lint_drawing.specs.Json as drawing
 use Rattle.timefd_web.specs.JsonLaws.Objects.{ObjectsAreJson, IsNumber64, IsRange64, IsWord, object_value}

@@ -7,7 +7,7 @@ use Rattle.json.specs.Word.{ends_word}
 use Rattle.json.specs.Lex.{Lexeme, token, string_token, lex, between, in_string}
 use Rattle.json.proofs.Printed.Decimals.{IsNumber-decimal}
 use Rattle.json.proofs.Printed.Numbers.{lex-number}
-use Rattle.timefd_lang_component.specs.Tree.{Text}
+use Rattle.timefd_parse.specs.Tree.{Text}
 use Rattle.timefd_web.proofs.JsonLawLemmas.Escapes.{Passes}
 
 -- The text begins with what ends a word, and is these lexemes where such follows it.

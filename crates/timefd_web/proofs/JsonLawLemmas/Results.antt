@@ -7,7 +7,7 @@ use Rattle.json.specs.Word.{ends_word}
 use Rattle.json.specs.Lex.{Lexeme, token, comma, lex, punctuate, fresh, after_value, after_comma}
 use Rattle.json.specs.Strict.{HasUniqueKeys}
 use Rattle.json.specs.Tree.{json_tokens, depth}
-use Rattle.timefd_lang_component.specs.Tree.{Text}
+use Rattle.timefd_parse.specs.Tree.{Text}
 use Rattle.timefd_lint_drawing.specs.Sarif as drawing
 use Rattle.timefd_lint_drawing.specs.Json.{text_field}
 use Rattle.timefd_lint_drawing.specs.Sarif.{uri}

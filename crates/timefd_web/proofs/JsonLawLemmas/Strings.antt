@@ -3,7 +3,7 @@ use Rattle.std.proofs.Common.{◌≡◌, [], sym, ap, ◌∙◌, IsUtf8, append-
 use Rattle.json.specs.Json.{string}
 use Rattle.json.specs.Lex.{lex, punctuate, fresh, tokens}
 use Rattle.json.specs.Tree.{json_tokens}
-use Rattle.timefd_lang_component.specs.Tree.{Text}
+use Rattle.timefd_parse.specs.Tree.{Text}
 use Rattle.timefd_lint_drawing.specs.Json.{all_escaped, quoted}
 use Rattle.timefd_web.specs.JsonLaws.Meaning.{StringsReadBack}
 use Rattle.timefd_web.proofs.JsonLawLemmas.Encoded.{quoted_utf8}

@@ -6,7 +6,7 @@ use Rattle.std.specs.Char.{digit_value, digit_char, encode_utf8}
 use Rattle.json.specs.Text.{content, plain, after_high, prepend, code_unit, is_high_surrogate, is_low_surrogate, surrogate_pair}
 use Rattle.json.specs.Word.{is_operator, is_space}
 use Rattle.json.specs.Lex.{Lexeme, Mode, lex, lex_byte, in_string, operator, space, other}
-use Rattle.timefd_lang_component.specs.Tree.{Text}
+use Rattle.timefd_parse.specs.Tree.{Text}
 use Rattle.timefd_lint_drawing.specs.Json.{hex_digit, unit}
 
 hex_char : (n : ℕ) → n < 16 → hex_digit n ≡ digit_char n

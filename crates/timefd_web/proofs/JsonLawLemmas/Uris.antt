@@ -6,7 +6,7 @@ use Rattle.std.proofs.lemmas.Str.{IsUtf8-append, IsUtf8-nil}
 use Rattle.std.specs.Prelude.{if◌then◌else◌}
 use Rattle.std.specs.List.{starts_with}
 use Rattle.json.proofs.Printed.Utf8.{IsUtf8-are_ascii}
-use Rattle.timefd_lang_component.specs.Tree.{Text}
+use Rattle.timefd_parse.specs.Tree.{Text}
 use Rattle.timefd_lint_drawing.specs.Sarif.{encoded, hex_digit, is_plain, uri, uri_byte}
 use Rattle.timefd_web.proofs.JsonLawLemmas.Bytes.{AreBytes, of_text, without_two}
 use Rattle.timefd_web.proofs.JsonLawLemmas.Escapes.{Passes, both, itself, none}

@@ -2,7 +2,7 @@
 use Rattle.std.specs.Prelude.{◌≡◌, Some, IsUtf8}
 use Rattle.json.specs.Json.{Json, string, document}
 use Rattle.json.specs.Strict.{HasUniqueKeys}
-use Rattle.timefd_lang_component.specs.Tree.{Text}
+use Rattle.timefd_parse.specs.Tree.{Text}
 use Rattle.timefd_lint_drawing.specs.Json.{quoted}
 
 -- The text is UTF-8, and JSON that means this value. No object in it has a key twice.

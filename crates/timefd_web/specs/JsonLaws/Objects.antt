@@ -1,7 +1,7 @@
 -- The values of the objects for findings.
 use Rattle.std.specs.Prelude.{ℕ, ◌<◌, ◌^◌, Bool, true, false, Option, None, Some, codes, decimal, IsUtf8, ⊤}
 use Rattle.json.specs.Json.{Json, string, number, boolean, object, Members, no_members, member}
-use Rattle.timefd_lang_component.specs.Tree.{Text}
+use Rattle.timefd_parse.specs.Tree.{Text}
 use Rattle.timefd_lint_diagnosis.specs.declared.diagnostic.Span.{Span}
 use Rattle.timefd_lint_drawing.specs.Json as drawing
 use Rattle.timefd_web.specs.JsonLaws.Meaning.{IsJson}

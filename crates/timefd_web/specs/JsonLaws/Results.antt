@@ -1,7 +1,7 @@
 -- The values of SARIF results.
 use Rattle.std.specs.Prelude.{ℕ, Bool, true, false, Option, None, Some, codes, IsUtf8, drop}
 use Rattle.json.specs.Json.{Json, boolean, array, object, no_items, item, Members, no_members, member}
-use Rattle.timefd_lang_component.specs.Tree.{Text}
+use Rattle.timefd_parse.specs.Tree.{Text}
 use Rattle.timefd_lint_drawing.specs.Sarif as drawing
 use Rattle.timefd_lint_drawing.specs.Sarif.{uri}
 use Rattle.timefd_web.specs.JsonLaws.Meaning.{IsJson}

@@ -1,5 +1,5 @@
 use Rattle.std.proofs.Common.{◌≡◌, IsUtf8, false, true, subst, sym}
-use Rattle.timefd_lang_fault.specs.BorrowedFaults.{to_borrowed_fault, IsBorrowed, IsBorrowedOf, IsMemory, IsRefusal}
+use Rattle.timefd_parse.specs.BorrowedFaults.{to_borrowed_fault, IsBorrowed, IsBorrowedOf, IsMemory, IsRefusal}
 use Rattle.timefd_language.specs.Grammar.{nesting_limit}
 use Rattle.timefd_language.specs.declared.description_version.Language.TheVariants.{Strftime}
 use Rattle.timefd_parse.specs.Language.{FaultIn}

@@ -1,7 +1,7 @@
 use Rattle.std.proofs.Common.{◌≡◌, ◌∙◌, Some, IsUtf8, false, true, subst, sym}
 use Rattle.timefd_c.specs.Reading.{Reads}
 use Rattle.timefd_c.proofs.ReadingLemmas.{nodes_reported, faulted, reported}
-use Rattle.timefd_lang_fault.specs.BorrowedFaults.{to_borrowed_fault, IsBorrowed, IsBorrowedOf, IsMemory}
+use Rattle.timefd_parse.specs.BorrowedFaults.{to_borrowed_fault, IsBorrowed, IsBorrowedOf, IsMemory}
 use Rattle.timefd_parse.specs.Language.{FaultIn}
 use Rattle.timefd_c.proofs.nodes.read_bytes.Goals as goal
 

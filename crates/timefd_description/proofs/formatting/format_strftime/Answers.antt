@@ -1,6 +1,6 @@
 use Rattle.timefd_description.proofs.FormatLemmas.{nothing_shown, strftime_shown}
 use Rattle.timefd_date_format.specs.Written.{written_all}
-use Rattle.timefd_lang_component.specs.Tree.{trees}
+use Rattle.timefd_parse.specs.Tree.{trees}
 use Rattle.timefd_description.proofs.formatting.format_strftime.Goals as goal
 
 pub returns-in-Ok-clause-spelled : goal.returns-in-Ok-clause-spelled

@@ -1,5 +1,5 @@
 use Rattle.std.proofs.Common.{subst}
-use Rattle.timefd_lang_component.specs.Tree.{trees}
+use Rattle.timefd_parse.specs.Tree.{trees}
 use Rattle.timefd_date_format.specs.Written.{written_all}
 use Rattle.timefd_parse.specs.Answers.{IsOutput}
 use Rattle.timefd_description.proofs.FormatLemmas.{description_shown, items_shown, nothing_shown}

@@ -1,4 +1,4 @@
-use Rattle.timefd_lang_component.specs.Tree.{compound, trees}
+use Rattle.timefd_parse.specs.Tree.{compound, trees}
 use Rattle.timefd_lang_node_list.specs.Item.Meaning.{item_trees}
 use Rattle.timefd_language.specs.Grammar.{nesting_limit}
 use Rattle.timefd_parse.specs.Language.{FaultIn}

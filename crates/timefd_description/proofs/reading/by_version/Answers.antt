@@ -1,5 +1,5 @@
 use Rattle.std.proofs.Common.{subst}
-use Rattle.timefd_lang_component.specs.Tree.{compound, trees}
+use Rattle.timefd_parse.specs.Tree.{compound, trees}
 use Rattle.timefd_lang_node_list.specs.Item.Meaning.{item_trees}
 use Rattle.timefd_items.specs.Description.{description_tree}
 use Rattle.timefd_parse.specs.Answers.{IsOutput}

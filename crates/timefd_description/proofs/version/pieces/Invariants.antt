@@ -1,5 +1,5 @@
 use Rattle.std.proofs.Common.{◌≡◌, ◌≤◌, List, length, IsUtf8}
-use Rattle.timefd_lang_component.specs.Tree.{Tree}
+use Rattle.timefd_parse.specs.Tree.{Tree}
 use Rattle.timefd_items.specs.Builder.{built}
 use Rattle.timefd_parse.proofs.ReadLemmas.{Continues}
 use Rattle.timefd_description.proofs.version.pieces.Given as goal

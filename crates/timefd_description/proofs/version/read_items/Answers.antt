@@ -1,6 +1,6 @@
 use Rattle.std.proofs.Common.{◌∙◌, ap, sym}
 use Rattle.std.proofs.lemmas.Bool.{true≢false}
-use Rattle.timefd_lang_component.specs.Tree.{pack}
+use Rattle.timefd_parse.specs.Tree.{pack}
 use Rattle.timefd_parse.proofs.ParseLemmas.{items_spelled, none_read}
 use Rattle.timefd_language.specs.declared.description_version.Language.TheVariants.{Version}
 use Rattle.timefd_description.proofs.ParsedLemmas.{accepted, no_memory, not_read}

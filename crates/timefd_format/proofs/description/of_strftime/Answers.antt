@@ -1,6 +1,6 @@
 use Rattle.std.proofs.Common.{subst}
 use Rattle.timefd_format.proofs.description.of_strftime.Goals as goal
-use Rattle.timefd_lang_fault.specs.Reported.{MemoryAlone}
+use Rattle.timefd_parse.specs.Reported.{MemoryAlone}
 
 -- a text that spells a description has no fault
 pub unreachable-requires : goal.unreachable-requires

@@ -2,7 +2,7 @@ use Rattle.std.proofs.Common.{◌∙◌, [], ◌∷◌, IsTrue, ap, subst, sym}
 use Rattle.timefd_lang_component.specs.Tree.{compound}
 use Rattle.timefd_lang_node_list.specs.Item.Meaning.{item_trees}
 use Rattle.timefd_language.specs.Strings.{are_of_strings}
-use Rattle.timefd_lang_fault.specs.Reported.{MemoryAlone}
+use Rattle.timefd_parse.specs.Reported.{MemoryAlone}
 use Rattle.timefd_lint_explain.proofs.members.push_members.Goals as goal
 
 pub push_composite-requires : goal.push_composite-requires

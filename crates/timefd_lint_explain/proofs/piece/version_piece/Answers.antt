@@ -1,7 +1,7 @@
 use Rattle.std.proofs.Common.{◌∙◌, ◌∷◌, [], IfOk, IsTrue, ap, subst, sym}
 use Rattle.timefd_lang_node_list.specs.Item.Meaning.{item_trees}
 use Rattle.timefd_language.specs.Strings.{are_of_strings}
-use Rattle.timefd_lang_fault.specs.Reported.{MemoryAlone}
+use Rattle.timefd_parse.specs.Reported.{MemoryAlone}
 use Rattle.timefd_parse.specs.Answers.{HasStrings}
 use Rattle.timefd_lint_explain.specs.Shown.{ShowsOne}
 use Rattle.timefd_lint_explain.proofs.ShownLemmas.{description_of, items_of}

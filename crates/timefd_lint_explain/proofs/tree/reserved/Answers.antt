@@ -1,5 +1,5 @@
 use Rattle.std.proofs.Common.{subst}
-use Rattle.timefd_lang_fault.specs.BorrowedFaults.{IsMemory}
+use Rattle.timefd_parse.specs.BorrowedFaults.{IsMemory}
 use Rattle.timefd_lint_explain.proofs.tree.reserved.Goals as goal
 
 -- A text that is spelled has no fault.

@@ -1,6 +1,6 @@
 use Rattle.std.proofs.Common.{arith, rules, List}
 use Rattle.std.specs.Prelude.{string_bytes}
-use Rattle.timefd_lang_component.specs.Tree.{Tree}
+use Rattle.timefd_parse.specs.Tree.{Tree}
 use Rattle.timefd_language.specs.Grammar.{nesting_limit}
 use Rattle.timefd_lint_rewrite.proofs.ChainLemmas.{accepted_fixed, faultless, limit_left, no_fault}
 use Rattle.timefd_lint_rewrite.proofs.fixing.fixed.Goals as goal

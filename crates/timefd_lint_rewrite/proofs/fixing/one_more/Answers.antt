@@ -1,5 +1,5 @@
 use Rattle.std.proofs.Common.{refl, rules}
-use Rattle.timefd_lang_fault.specs.Faults.{fault_of}
+use Rattle.timefd_parse.specs.Faults.{fault_of}
 use Rattle.timefd_language.specs.Grammar.{nesting_limit}
 use Rattle.timefd_parse.specs.Language.{FaultIn}
 use Rattle.timefd_lint_diagnosis.specs.Diagnoses.{IsDiagnosis}

@@ -1,5 +1,5 @@
 use Rattle.std.proofs.Common.{length, IsUtf8}
-use Rattle.timefd_lang_component.specs.Tree.{Text}
+use Rattle.timefd_parse.specs.Tree.{Text}
 use Rattle.timefd_lint_sources.specs.Items.{HasEnd}
 use Rattle.timefd_lint_sources.proofs.item.after_bracket.Given as goal
 

@@ -1,7 +1,7 @@
 use Rattle.std.proofs.Common.{Some, ap, refl, sym, true≢false, ◌∙◌}
-use Rattle.timefd_lang_fault.specs.BorrowedFaults.{to_borrowed_fault}
-use Rattle.timefd_lang_fault.specs.Codes.{code_of}
-use Rattle.timefd_lang_fault.specs.Faults.{Fault}
+use Rattle.timefd_parse.specs.BorrowedFaults.{to_borrowed_fault}
+use Rattle.timefd_parse.specs.Codes.{code_of}
+use Rattle.timefd_parse.specs.Faults.{Fault}
 use Rattle.timefd_language.specs.Grammar.{nesting_limit}
 use Rattle.timefd_parse.specs.Language.{FaultIn}
 use Rattle.timefd_language.specs.declared.description_version.Language.TheVariants.{Version}

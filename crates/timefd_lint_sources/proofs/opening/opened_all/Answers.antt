@@ -1,6 +1,6 @@
 use Rattle.std.proofs.Common.{◌<◌, length, rules, subst}
 use Rattle.std.specs.Prelude.{string_bytes}
-use Rattle.timefd_lang_component.specs.Tree.{Text}
+use Rattle.timefd_parse.specs.Tree.{Text}
 use Rattle.timefd_lint_sources.specs.Items.{IsOpened}
 use Rattle.timefd_lint_sources.proofs.OpeningLemmas.{nothing_left}
 use Rattle.timefd_lint_sources.proofs.opening.opened_all.Goals as goal

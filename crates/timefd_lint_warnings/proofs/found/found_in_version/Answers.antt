@@ -1,7 +1,6 @@
+use Rattle.std.proofs.Common.{◌≡◌, List}
 use Rattle.timefd_lint_warnings.proofs.FoundLemmas.{found_as_spelled}
 use Rattle.timefd_lint_warnings.proofs.found.found_in_version.Goals as goal
 
 pub returns-in-Ok : goal.returns-in-Ok
-returns-in-Ok c = λ list s.
-    found_as_spelled c.args.version list c.in-Ok.output c.args.levels c.found_of.result c.found_of.ensures
-    (c.in-Ok.ensures.spelled list s)
+returns-in-Ok c = ?

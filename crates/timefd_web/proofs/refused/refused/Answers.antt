@@ -1,5 +1,5 @@
 use Rattle.std.proofs.Common.{rules, ◌≡◌}
-use Rattle.timefd_lang_fault.specs.Sentences.{error_sentence}
+use Rattle.timefd_parse.specs.Sentences.{error_sentence}
 use Rattle.timefd_lint_drawing.specs.HelpText.{help_text}
 use Rattle.timefd_web.proofs.RefusedLemmas.{refused_by}
 use Rattle.timefd_web.proofs.refused.refused.Goals as goal

@@ -1,8 +1,8 @@
 use Rattle.std.proofs.Common.{◌≡◌, IfOk, rules}
-use Rattle.timefd_lang_fault.specs.Placed.{IsPlaced}
+use Rattle.timefd_parse.specs.Placed.{IsPlaced}
 use Rattle.timefd_lint_diagnosis.specs.Diagnoses.{IsDiagnosis}
-use Rattle.timefd_lang_fault.specs.Faults.{fault_of}
-use Rattle.timefd_language.specs.Grammar.{nesting_limit}
+use Rattle.timefd_parse.specs.Faults.{fault_of}
+use Rattle.timefd_parse.specs.Grammar.{nesting_limit}
 use Rattle.timefd_parse.specs.Language.{FaultIn}
 use Rattle.timefd_web.specs.Objects.{refused_object}
 use Rattle.timefd_web.proofs.ReportLemmas.{refused_report}

@@ -2,7 +2,7 @@ use Rattle.std.proofs.Common.{◌≡◌, map, subst}
 use Rattle.std.specs.Prelude.{IfOk}
 use Rattle.timefd_date_format.specs.Written.{written, written_all}
 use Rattle.timefd_date_moment.specs.declared.moment.Moment.{Moment}
-use Rattle.timefd_lang_component.specs.Tree.{trees}
+use Rattle.timefd_parse.specs.Tree.{trees}
 use Rattle.timefd_lang_node_list.specs.LeafMeaning.{leaf_tree}
 use Rattle.timefd_description.proofs.description.Description.leaves.Goals as goal
 

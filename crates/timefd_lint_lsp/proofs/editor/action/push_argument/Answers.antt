@@ -1,6 +1,6 @@
 use Rattle.std.proofs.Common.{◌++◌, refl, ap, ◌∙◌}
 use Rattle.std.specs.Prelude.{codes, string_bytes}
-use Rattle.timefd_lang_component.specs.Tree.{Text}
+use Rattle.timefd_parse.specs.Tree.{Text}
 use Rattle.timefd_lint_lsp.proofs.EditorLemmas.EditLemmas.{edited}
 use Rattle.timefd_lint_lsp.specs.Editor.Edits.{digit_text}
 use Rattle.timefd_lint_lsp.proofs.editor.action.push_argument.Goals as goal

@@ -1,6 +1,6 @@
 use Rattle.std.proofs.Common.{subst}
 use Rattle.std.specs.Prelude.{IsUtf8}
-use Rattle.timefd_lang_component.specs.Tree.{Text}
+use Rattle.timefd_parse.specs.Tree.{Text}
 use Rattle.timefd_lint_lsp.proofs.EditorLemmas.FindingLemmas.{no_text}
 use Rattle.timefd_lint_lsp.proofs.editor.all_findings.push_on.Goals as goal
 

@@ -1,6 +1,6 @@
 use Rattle.std.proofs.Common.{subst, ◌∙◌}
 use Rattle.std.specs.Prelude.{IsUtf8}
-use Rattle.timefd_lang_component.specs.Tree.{Text}
+use Rattle.timefd_parse.specs.Tree.{Text}
 use Rattle.timefd_lint_lsp.proofs.EditorLemmas.FixLemmas.{no_body, other_body}
 use Rattle.timefd_lint_lsp.proofs.editor.all_fixes.push_parts.Goals as goal
 

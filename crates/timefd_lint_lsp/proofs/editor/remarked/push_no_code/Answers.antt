@@ -1,6 +1,6 @@
 use Rattle.std.proofs.Common.{subst}
 use Rattle.std.specs.Prelude.{OnOk}
-use Rattle.timefd_lang_component.specs.Tree.{Text}
+use Rattle.timefd_parse.specs.Tree.{Text}
 use Rattle.timefd_lint_lsp.specs.declared.editor.finding.Severity.TheVariants.{Error}
 use Rattle.timefd_lint_lsp.specs.Editor.Each.{Adds}
 use Rattle.timefd_lint_lsp.specs.Editor.Finding.{IsOne}

@@ -1,6 +1,6 @@
 use Rattle.std.proofs.Common.{◌-◌, length, take, drop, rules, arith, refl, ap}
 use Rattle.std.proofs.lemmas.Grind.{common_steps}
-use Rattle.timefd_lang_component.specs.Tree.{Text}
+use Rattle.timefd_parse.specs.Tree.{Text}
 use Rattle.timefd_lint_sources.proofs.RewritingLemmas.SourceLemmas.{has_inside, replaced}
 use Rattle.timefd_lint_sources.proofs.rewriting.source.replace.Goals as goal
 

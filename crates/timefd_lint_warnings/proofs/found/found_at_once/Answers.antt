@@ -1,10 +1,10 @@
 use Rattle.std.proofs.Common.{◌≡◌, List, subst, sym}
 use Rattle.std.specs.Prelude.{IfOk}
-use Rattle.timefd_lang_component.specs.Tree.{Tree}
-use Rattle.timefd_language.specs.Grammar.{nesting_limit}
+use Rattle.timefd_parse.specs.Tree.{Tree}
+use Rattle.timefd_parse.specs.Grammar.{nesting_limit}
 use Rattle.timefd_parse.specs.Language.{SpellsIn}
 use Rattle.timefd_lint_warnings.specs.Found.{found_in}
-use Rattle.timefd_lint_warnings.proofs.found.found_in.Goals as goal
+use Rattle.timefd_lint_warnings.proofs.found.found_at_once.Goals as goal
 
 pub returns-in-Version : goal.returns-in-Version
 returns-in-Version c =

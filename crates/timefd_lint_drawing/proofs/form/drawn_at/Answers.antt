@@ -1,7 +1,7 @@
 use Rattle.std.proofs.lemmas.Result.{IfOk-weaker}
 use Rattle.timefd_lint_drawing.specs.Findings.{located_of, said_of}
-use Rattle.timefd_lint_drawing.proofs.FindingLemmas.{never_empty}
-use Rattle.timefd_lint_drawing.proofs.finding.drawn_at.Goals as goal
+use Rattle.timefd_lint_drawing.proofs.FormLemmas.{never_empty}
+use Rattle.timefd_lint_drawing.proofs.form.drawn_at.Goals as goal
 
 pub returns-clause-some : goal.returns-clause-some
 returns-clause-some c =
