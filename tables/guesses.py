@@ -84,7 +84,7 @@ def specification():
     return ("-- Descriptions that dates and times are often written by, likeliest first.\n"
             "use Rattle.std.specs.Prelude.{codes, List, [], ◌∷◌, ◌++◌, Option, Some, None}\n"
             "use denote.Ref.{Bor}\n"
-            "use Rattle.timefd_lang_component.specs.Tree.{Text}\n"
+            "use Rattle.timefd_parse.specs.Tree.{Text}\n"
             "use Rattle.timefd_description.specs.declared.guessing.candidate.Candidate.{Candidate}\n"
             "use Rattle.timefd_description.specs.declared.guessing.candidates.Group.{Group}\n"
             f"use Rattle.timefd_description.specs.declared.guessing.candidates.Group.TheVariants.{{{', '.join(map(variant, groups()))}}}\n\n"

@@ -6,7 +6,7 @@ import sys
 import tomllib
 
 import component
-from forms import FORMS
+from shapes import SHAPES
 
 HERE = pathlib.Path(__file__).resolve().parent
 
@@ -18,10 +18,10 @@ def snake(name):
 
 @dataclasses.dataclass(frozen=True)
 class Meaning:
-    """A row. What its form doesn't need, it doesn't have."""
+    """A row. What its shape doesn't need, it doesn't have."""
 
     variant: str
-    form: str
+    shape: str
     part: str
     field: str
     code: str = ""
@@ -67,8 +67,8 @@ class Meaning:
         return ROWS[self.variant]
 
     def by(self, what):
-        """What the form says of this, for the row."""
-        return getattr(FORMS[self.form], what).format(self)
+        """What the shape says of this, for the row."""
+        return getattr(SHAPES[self.shape], what).format(self)
 
 
 def row(variant, cells):
@@ -76,8 +76,8 @@ def row(variant, cells):
     known = {field.name for field in dataclasses.fields(Meaning)}
     if unknown := [name for name in cells if name not in known]:
         sys.exit(f"tables/meanings.toml: `{variant}` has `{unknown[0]}`, of which nothing is known")
-    if cells.get("form") not in FORMS:
-        sys.exit(f"tables/meanings.toml: `{variant}` has to have one of these forms: {', '.join(FORMS)}")
+    if cells.get("shape") not in SHAPES:
+        sys.exit(f"tables/meanings.toml: `{variant}` has to have one of these shapes: {', '.join(SHAPES)}")
     return Meaning(variant, **{"field": cells["part"], **cells})
 
 

@@ -31,7 +31,7 @@ use Rattle.timefd_lint.specs.Lines.{IsEndOf, IsLineEnd}
 use Rattle.timefd_lint.specs.Failures.{note_of, unread}
 use Rattle.timefd_lint.specs.declared.failure.Failure.{Failure}
 use Rattle.timefd_lint.specs.Marks.{Notes, has_mark}
-use Rattle.timefd_lint.specs.Reported.{Says, SaysUnread, SaysOf, IsUnreadIfFailed, AreMarked, Reported, is_description, is_refused, is_not_text, is_failed, is_unread_call, is_unread_value, is_wrong_comment, warnings_in, warnings_of, allowed_in, allowed_of, IsEndIn, IsReportOn, IsPosition, ArePlaced, position, one_if, count, tally_of_one, tally_of, text_in, both, messages, lines_in, lines_of, IsReadUp, AreCountedOut, IsRun, IsRunOver, IsRunOfAll, IsRunOn, IsNext}
+use Rattle.timefd_lint.specs.Reported.{Says, SaysUnread, SaysOf, IsUnreadIfFailed, AreMarked, Reported, is_description, is_refused, is_not_text, is_failed, is_unread_call, is_unread_value, is_wrong_comment, warnings_in, allowed_in, IsEndIn, IsReportOn, IsPosition, ArePlaced, position, one_if, count, total, tally_of_one, tally_of, text_in, both, messages, lines_in, lines_of, IsReadUp, AreCountedOut, IsRun, IsRunOver, IsRunOfAll, IsRunOn, IsNext}
 
 -- A note, and the message after it.
 pub notes_and_says : (is_marked : Bool) (language : LineLanguage) (reporting : Reporting) (origin : Origin)
@@ -196,18 +196,14 @@ one_text is_whole language comment reporting origin line is_marked end before af
     }
 
 -- Two runs in a row are a run.
+total_both : (amount : Reported → ℕ) (xs ys : List Reported)
+    → total amount (xs ++ ys) ≡ total amount xs + total amount ys
+total_both amount [] ys = omega arith
+total_both amount (x ∷ xs) ys = omega (arith, total_both amount xs ys)
+
 count_both : (test : Reported → Bool) (xs ys : List Reported)
     → count test (xs ++ ys) ≡ count test xs + count test ys
-count_both test [] ys = omega arith
-count_both test (x ∷ xs) ys = omega (arith, count_both test xs ys)
-
-warnings_both : (xs ys : List Reported) → warnings_of (xs ++ ys) ≡ warnings_of xs + warnings_of ys
-warnings_both [] ys = omega arith
-warnings_both (x ∷ xs) ys = omega (arith, warnings_both xs ys)
-
-allowed_both : (xs ys : List Reported) → allowed_of (xs ++ ys) ≡ allowed_of xs + allowed_of ys
-allowed_both [] ys = omega arith
-allowed_both (x ∷ xs) ys = omega (arith, allowed_both xs ys)
+count_both test xs ys = total_both (λ t. one_if (test t)) xs ys
 
 sum_both : (a b : ℕ) → u64_saturate (u64_saturate a + u64_saturate b) ≡ u64_saturate (a + b)
 sum_both a b = omega arith
@@ -219,21 +215,21 @@ tally_both xs ys =
           (count (λ (t : Reported). is_description t.end) ys),
       sum_both (count (λ (t : Reported). is_refused t.end) xs)
           (count (λ (t : Reported). is_refused t.end) ys),
-      sum_both (warnings_of xs) (warnings_of ys),
+      sum_both (total (λ (t : Reported). warnings_in t.end) xs) (total (λ (t : Reported). warnings_in t.end) ys),
       sum_both (count (λ (t : Reported). is_unread_call t.end) xs)
           (count (λ (t : Reported). is_unread_call t.end) ys),
       sum_both (count (λ (t : Reported). is_unread_value t.end) xs)
           (count (λ (t : Reported). is_unread_value t.end) ys),
       sum_both (count (λ (t : Reported). is_wrong_comment t.end) xs)
           (count (λ (t : Reported). is_wrong_comment t.end) ys),
-      sum_both (allowed_of xs) (allowed_of ys),
+      sum_both (total (λ (t : Reported). allowed_in t.end) xs) (total (λ (t : Reported). allowed_in t.end) ys),
       count_both (λ (t : Reported). is_description t.end) xs ys,
       count_both (λ (t : Reported). is_refused t.end) xs ys,
-      warnings_both xs ys,
+      total_both (λ (t : Reported). warnings_in t.end) xs ys,
       count_both (λ (t : Reported). is_unread_call t.end) xs ys,
       count_both (λ (t : Reported). is_unread_value t.end) xs ys,
       count_both (λ (t : Reported). is_wrong_comment t.end) xs ys,
-      allowed_both xs ys,
+      total_both (λ (t : Reported). allowed_in t.end) xs ys,
       list_any-append (λ (t : Reported). is_not_text t.end) xs ys,
       list_any-append (λ (t : Reported). is_failed t.end) xs ys,
     ) refl

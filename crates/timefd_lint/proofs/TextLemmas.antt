@@ -7,10 +7,10 @@ use Rattle.timefd_lint_options.specs.declared.wording.LineLanguage.{LineLanguage
 use Rattle.timefd_lint_drawing.specs.declared.draw.Style.{Style}
 use Rattle.timefd_lint_drawing.specs.declared.position.Origin.{Origin}
 use Rattle.timefd_lint_sources.specs.declared.reported.Reporting.{Reporting}
-use Rattle.timefd_lint_sources.specs.declared.verdict.TextPlace.{TextPlace}
-use Rattle.timefd_lint_sources.specs.declared.verdict.TextJudgement.{TextJudgement}
-use Rattle.timefd_lint_sources.specs.declared.verdict.TextJudgement.TheVariants as verdicts
-use Rattle.timefd_lint_sources.specs.Verdicts.{IsVerdict}
+use Rattle.timefd_lint_sources.specs.declared.judgement.TextPlace.{TextPlace}
+use Rattle.timefd_lint_sources.specs.declared.judgement.TextJudgement.{TextJudgement}
+use Rattle.timefd_lint_sources.specs.declared.judgement.TextJudgement.TheVariants as judgements
+use Rattle.timefd_lint_sources.specs.Judgements.{IsJudgement}
 use Rattle.timefd_lint_sources.specs.Whole.{no_text_note}
 use Rattle.timefd_lint.specs.declared.line.LintError.{LintError}
 use Rattle.timefd_lint.specs.declared.line.TextEnd.{TextEnd}
@@ -57,45 +57,45 @@ no_text_said language reporting origin bytes before after (Err e) is written = t
 
 -- A text that is UTF-8 is judged.
 
-ended_so : (language : LineLanguage) (reporting : Reporting) (text : Text) (verdict : TextJudgement) → IsUtf8 text
-    → IsVerdict (place_of language) reporting.levels text verdict → IsEndOf language reporting text (end_of verdict)
-ended_so language reporting text (verdicts.Accepted by found) utf8 judged =
-    (utf8, (verdicts.Accepted by found, record { judged = judged; ends = refl }))
-ended_so language reporting text (verdicts.Faulty faults) utf8 judged =
-    (utf8, (verdicts.Faulty faults, record { judged = judged; ends = refl }))
-ended_so language reporting text (verdicts.Right traps) utf8 judged =
-    (utf8, (verdicts.Right traps, record { judged = judged; ends = refl }))
-ended_so language reporting text (verdicts.Refused part) utf8 judged =
-    (utf8, (verdicts.Refused part, record { judged = judged; ends = refl }))
+ended_so : (language : LineLanguage) (reporting : Reporting) (text : Text) (judgement : TextJudgement) → IsUtf8 text
+    → IsJudgement (place_of language) reporting.levels text judgement → IsEndOf language reporting text (end_of judgement)
+ended_so language reporting text (judgements.Accepted by found) utf8 judged =
+    (utf8, (judgements.Accepted by found, record { judged = judged; ends = refl }))
+ended_so language reporting text (judgements.Faulty faults) utf8 judged =
+    (utf8, (judgements.Faulty faults, record { judged = judged; ends = refl }))
+ended_so language reporting text (judgements.Right traps) utf8 judged =
+    (utf8, (judgements.Right traps, record { judged = judged; ends = refl }))
+ended_so language reporting text (judgements.Refused part) utf8 judged =
+    (utf8, (judgements.Refused part, record { judged = judged; ends = refl }))
 
-pub ended : (language : LineLanguage) (reporting : Reporting) (place : TextPlace) (text : Text) (verdict : TextJudgement)
-    (end : TextEnd) → IsUtf8 text → place ≡ place_of language → IsVerdict place reporting.levels text verdict
-    → end ≡ end_of verdict → IsEndOf language reporting text end
-ended language reporting place text verdict end utf8 there judged is =
-    subst (IsEndOf language reporting text) (sym is) (ended_so language reporting text verdict utf8
-    (subst (λ p. IsVerdict p reporting.levels text verdict) there judged))
+pub ended : (language : LineLanguage) (reporting : Reporting) (place : TextPlace) (text : Text) (judgement : TextJudgement)
+    (end : TextEnd) → IsUtf8 text → place ≡ place_of language → IsJudgement place reporting.levels text judgement
+    → end ≡ end_of judgement → IsEndOf language reporting text end
+ended language reporting place text judgement end utf8 there judged is =
+    subst (IsEndOf language reporting text) (sym is) (ended_so language reporting text judgement utf8
+    (subst (λ p. IsJudgement p reporting.levels text judgement) there judged))
 
-said_so : (language : LineLanguage) (reporting : Reporting) (origin : Origin) (text : Text) (verdict : TextJudgement)
-    (message : Text) → IsVerdict (place_of language) reporting.levels text verdict
-    → IsDrawn reporting origin text verdict message → IsMessageOn language reporting origin text (end_of verdict) message
-said_so language reporting origin text (verdicts.Accepted by found) message judged drawn =
-    (verdicts.Accepted by found, record { judged = judged; ends = refl }, drawn)
-said_so language reporting origin text (verdicts.Faulty faults) message judged drawn =
-    (verdicts.Faulty faults, record { judged = judged; ends = refl }, drawn)
-said_so language reporting origin text (verdicts.Right traps) message judged drawn =
-    (verdicts.Right traps, record { judged = judged; ends = refl }, drawn)
-said_so language reporting origin text (verdicts.Refused part) message judged drawn =
-    (verdicts.Refused part, record { judged = judged; ends = refl }, drawn)
+said_so : (language : LineLanguage) (reporting : Reporting) (origin : Origin) (text : Text) (judgement : TextJudgement)
+    (message : Text) → IsJudgement (place_of language) reporting.levels text judgement
+    → IsDrawn reporting origin text judgement message → IsMessageOn language reporting origin text (end_of judgement) message
+said_so language reporting origin text (judgements.Accepted by found) message judged drawn =
+    (judgements.Accepted by found, record { judged = judged; ends = refl }, drawn)
+said_so language reporting origin text (judgements.Faulty faults) message judged drawn =
+    (judgements.Faulty faults, record { judged = judged; ends = refl }, drawn)
+said_so language reporting origin text (judgements.Right traps) message judged drawn =
+    (judgements.Right traps, record { judged = judged; ends = refl }, drawn)
+said_so language reporting origin text (judgements.Refused part) message judged drawn =
+    (judgements.Refused part, record { judged = judged; ends = refl }, drawn)
 
 pub said : (language : LineLanguage) (reporting : Reporting) (origin : Origin) (place : TextPlace) (text : Text)
-    (verdict : TextJudgement) (message bytes : Text) (before after : Option Text) (end : TextEnd)
-    → place ≡ place_of language → IsVerdict place reporting.levels text verdict
-    → IsDrawn reporting origin text verdict message → bytes ≡ message → Appends before after bytes
-    → end ≡ end_of verdict → Says language reporting origin text end before after
-said language reporting origin place text verdict message bytes before after end there judged drawn same written is = (
+    (judgement : TextJudgement) (message bytes : Text) (before after : Option Text) (end : TextEnd)
+    → place ≡ place_of language → IsJudgement place reporting.levels text judgement
+    → IsDrawn reporting origin text judgement message → bytes ≡ message → Appends before after bytes
+    → end ≡ end_of judgement → Says language reporting origin text end before after
+said language reporting origin place text judgement message bytes before after end there judged drawn same written is = (
   message,
   subst (λ e. IsMessageOn language reporting origin text e message) (sym is)
-      (said_so language reporting origin text verdict message
-      (subst (λ p. IsVerdict p reporting.levels text verdict) there judged) drawn),
+      (said_so language reporting origin text judgement message
+      (subst (λ p. IsJudgement p reporting.levels text judgement) there judged) drawn),
   subst (λ b. Appends before after b) same written,
 )

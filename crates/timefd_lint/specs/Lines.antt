@@ -7,12 +7,12 @@ use Rattle.timefd_lint_options.specs.declared.wording.LineLanguage.TheVariants.{
 use Rattle.timefd_lint_rewrite.specs.Lines.{is_passed_over}
 use Rattle.timefd_lint_scan.specs.declared.known.Items.{Items}
 use Rattle.timefd_lint_sources.specs.declared.reported.Reporting.{Reporting}
-use Rattle.timefd_lint_sources.specs.declared.verdict.RefusedParts.TheVariants.{Unwritable}
-use Rattle.timefd_lint_sources.specs.declared.verdict.TextPlace.{TextPlace}
-use Rattle.timefd_lint_sources.specs.declared.verdict.TextPlace.TheVariants as places
-use Rattle.timefd_lint_sources.specs.declared.verdict.TextJudgement.{TextJudgement}
-use Rattle.timefd_lint_sources.specs.declared.verdict.TextJudgement.TheVariants as verdicts
-use Rattle.timefd_lint_sources.specs.Verdicts.{IsVerdict, levels_of}
+use Rattle.timefd_lint_sources.specs.declared.judgement.RefusedParts.TheVariants.{Unwritable}
+use Rattle.timefd_lint_sources.specs.declared.judgement.TextPlace.{TextPlace}
+use Rattle.timefd_lint_sources.specs.declared.judgement.TextPlace.TheVariants as places
+use Rattle.timefd_lint_sources.specs.declared.judgement.TextJudgement.{TextJudgement}
+use Rattle.timefd_lint_sources.specs.declared.judgement.TextJudgement.TheVariants as judgements
+use Rattle.timefd_lint_sources.specs.Judgements.{IsJudgement, levels_of}
 use Rattle.timefd_lint.specs.declared.line.TextEnd.{TextEnd}
 use Rattle.timefd_lint.specs.declared.line.TextEnd.TheVariants.{PassedOver, Accepted, Converted, Refused, NotText, Allowed, Failed, UnreadCall, UnreadValue, WrongComment}
 
@@ -24,20 +24,20 @@ place_of (Other dialect) = places.Other dialect Unwritable
 
 -- how the check of a text ends
 abbrev pub end_of : TextJudgement → TextEnd
-end_of (verdicts.Accepted language found) = Accepted (levels_of found)
-end_of (verdicts.Faulty faults) = Refused
-end_of (verdicts.Right traps) = Converted (length traps.items)
-end_of (verdicts.Refused part) = Refused
+end_of (judgements.Accepted language found) = Accepted (levels_of found)
+end_of (judgements.Faulty faults) = Refused
+end_of (judgements.Right traps) = Converted (length traps.items)
+end_of (judgements.Refused part) = Refused
 
 -- This is what is wrong with a text in its language, and so its check ends.
-pub record IsJudged (language : LineLanguage) (reporting : Reporting) (text : Text) (end : TextEnd) (verdict : TextJudgement)
+pub record IsJudged (language : LineLanguage) (reporting : Reporting) (text : Text) (end : TextEnd) (judgement : TextJudgement)
     : Type 0 where
-  pub judged : IsVerdict (place_of language) reporting.levels text verdict
-  pub ends : end ≡ end_of verdict
+  pub judged : IsJudgement (place_of language) reporting.levels text judgement
+  pub ends : end ≡ end_of judgement
 
 abbrev pub IsEndBy : LineLanguage → Reporting → Text → TextEnd → Type 0
 IsEndBy language reporting text end =
-    IsUtf8 text × ((verdict : TextJudgement) × IsJudged language reporting text end verdict)
+    IsUtf8 text × ((judgement : TextJudgement) × IsJudged language reporting text end judgement)
 
 -- A text is accepted, converted or refused by its language. Otherwise it isn't UTF-8.
 abbrev pub IsEndOf : LineLanguage → Reporting → Text → TextEnd → Type 0

@@ -20,9 +20,9 @@ use Rattle.timefd_lang_warnings.specs.declared.levels.Level.TheVariants.{Warned,
 use Rattle.timefd_lang_warnings.specs.declared.levels.Levels.{Levels}
 use Rattle.timefd_lang_warnings.specs.Levels.{count as warning_count}
 use Rattle.timefd_lint_sources.specs.declared.reported.Reporting.{Reporting}
-use Rattle.timefd_lint_sources.specs.declared.verdict.TextJudgement.{TextJudgement}
-use Rattle.timefd_lint_sources.specs.declared.verdict.TextJudgement.TheVariants as verdicts
-use Rattle.timefd_lint_sources.specs.Verdicts.{levels_of}
+use Rattle.timefd_lint_sources.specs.declared.judgement.TextJudgement.{TextJudgement}
+use Rattle.timefd_lint_sources.specs.declared.judgement.TextJudgement.TheVariants as judgements
+use Rattle.timefd_lint_sources.specs.Judgements.{levels_of}
 use Rattle.timefd_lint_sources.specs.Whole.{IsTreeWithWarnings, no_text_note}
 use Rattle.timefd_lint_rewrite.specs.Lines.{AreLinesOf, IsNextLine, without_newline}
 use Rattle.timefd_lint.specs.Failures.{IsUnreadNote, note_of}
@@ -42,13 +42,13 @@ IsAcceptedDrawn reporting origin text language found message =
 
 -- The message on what is wrong with a text.
 abbrev pub IsDrawn : Reporting → Origin → Text → TextJudgement → Text → Type 0
-IsDrawn reporting origin text (verdicts.Accepted language found) message =
+IsDrawn reporting origin text (judgements.Accepted language found) message =
     IsAcceptedDrawn reporting origin text language found message
-IsDrawn reporting origin text (verdicts.Faulty faults) message =
+IsDrawn reporting origin text (judgements.Faulty faults) message =
     message ≡ faults_drawn reporting.style origin text faults.items
-IsDrawn reporting origin text (verdicts.Right traps) message =
+IsDrawn reporting origin text (judgements.Right traps) message =
     message ≡ flat_map (trap_drawn reporting.style origin text) traps.items
-IsDrawn reporting origin text (verdicts.Refused part) message =
+IsDrawn reporting origin text (judgements.Refused part) message =
     message ≡ refusal_drawn reporting.style origin text part.reason part.index
 
 -- The message on a file that fails is the note on why.
@@ -57,8 +57,8 @@ IsFailureNote style file message = (failure : Failure) × (message ≡ note_of s
 
 -- The message on a text with this end.
 abbrev pub IsMessageBy : LineLanguage → Reporting → Origin → Text → TextEnd → Text → Type 0
-IsMessageBy language reporting origin text end message = (verdict : TextJudgement)
-    × IsJudged language reporting text end verdict × IsDrawn reporting origin text verdict message
+IsMessageBy language reporting origin text end message = (judgement : TextJudgement)
+    × IsJudged language reporting text end judgement × IsDrawn reporting origin text judgement message
 
 -- The message on a text. A text that is passed over has none.
 abbrev pub IsMessageOn : LineLanguage → Reporting → Origin → Text → TextEnd → Text → Type 0
@@ -259,18 +259,14 @@ abbrev pub one_if : Bool → ℕ
 one_if true = 1
 one_if false = 0
 
+-- the amounts of all of them together
+abbrev pub total : (Reported → ℕ) → List Reported → ℕ
+total amount [] = 0
+total amount (t ∷ reported) = amount t + total amount reported
+
 -- how many pass the test
 abbrev pub count : (Reported → Bool) → List Reported → ℕ
-count test [] = 0
-count test (t ∷ reported) = one_if (test t) + count test reported
-
-abbrev pub warnings_of : List Reported → ℕ
-warnings_of [] = 0
-warnings_of (t ∷ reported) = warnings_in t.end + warnings_of reported
-
-abbrev pub allowed_of : List Reported → ℕ
-allowed_of [] = 0
-allowed_of (t ∷ reported) = allowed_in t.end + allowed_of reported
+count test reported = total (λ t. one_if (test t)) reported
 
 -- the tally of one text
 abbrev pub tally_of_one : TextEnd → LintTally
@@ -292,11 +288,11 @@ abbrev pub tally_of : List Reported → LintTally
 tally_of reported = record {
   descriptions = u64_saturate (count (λ t. is_description t.end) reported);
   refused = u64_saturate (count (λ t. is_refused t.end) reported);
-  warnings = u64_saturate (warnings_of reported);
+  warnings = u64_saturate (total (λ t. warnings_in t.end) reported);
   unread_calls = u64_saturate (count (λ t. is_unread_call t.end) reported);
   unread_values = u64_saturate (count (λ t. is_unread_value t.end) reported);
   wrong_comments = u64_saturate (count (λ t. is_wrong_comment t.end) reported);
-  allowed = u64_saturate (allowed_of reported);
+  allowed = u64_saturate (total (λ t. allowed_in t.end) reported);
   not_text = list_any (λ t. is_not_text t.end) reported;
   failed = list_any (λ t. is_failed t.end) reported;
   is_left = false;

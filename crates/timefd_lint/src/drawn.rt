@@ -19,12 +19,12 @@ pub fn drawn(
     reporting: Reporting,
     origin: Origin<'_>,
     text: &str,
-    verdict: &TextJudgement,
+    judgement: &TextJudgement,
 ) -> Result<Vec<u8>, AllocError>
-    ensures { IfOk result (λ message. spec.IsDrawn reporting origin.entry text.now verdict.now message.items) }
+    ensures { IfOk result (λ message. spec.IsDrawn reporting origin.entry text.now judgement.now message.items) }
 {
     let style = reporting.style;
-    match verdict {
+    match judgement {
         TextJudgement::Accepted(language, found) => {
             accepted_drawn(alloc, reporting, origin, text, *language, *found)
         }

@@ -121,10 +121,10 @@ fn judged<W: Sink>(
     ensures unwritten { IfErr result (IsCausedBy (W.has_failed writer.new)) }
 {
     let place = place_of(options.language);
-    let verdict = judge(alloc, place, options.reporting.levels, text)?;
-    let message = drawn(alloc, options.reporting, origin, text, &verdict)?;
+    let judgement = judge(alloc, place, options.reporting.levels, text)?;
+    let message = drawn(alloc, options.reporting, origin, text, &judgement)?;
     write(writer, &message)?;
-    Ok(end_of(&verdict))
+    Ok(end_of(&judgement))
 }
 
 // Where lines in this language stand. They don't take items that `parse` refuses, and each part of a format of another
@@ -139,10 +139,10 @@ fn place_of(language: LineLanguage) -> TextPlace
 }
 
 // How the check of a text ends.
-fn end_of(verdict: &TextJudgement) -> TextEnd
-    ensures { result ≡ spec.end_of verdict.now }
+fn end_of(judgement: &TextJudgement) -> TextEnd
+    ensures { result ≡ spec.end_of judgement.now }
 {
-    match verdict {
+    match judgement {
         TextJudgement::Accepted(_, found) => TextEnd::Accepted(levels_of(*found)),
         TextJudgement::Right(traps) => TextEnd::Converted(traps.len() as u64),
         TextJudgement::Faulty(_) | TextJudgement::Refused(_) => TextEnd::Refused,

@@ -12,10 +12,10 @@ use Rattle.timefd_lint_drawing.specs.declared.severity.FindingSeverity.TheVarian
 use Rattle.timefd_lint_drawing.specs.Findings.{Located, Said, described}
 use Rattle.timefd_lint_drawing.specs.Forms.{drawn_at, drawn_in}
 use Rattle.timefd_lint_drawing.specs.Github.{annotation}
-use Rattle.timefd_lint_drawing.specs.Human.{below, drawing, head_by, is_painted, plain_head}
+use Rattle.timefd_lint_drawing.specs.Human.{below, drawing, head_by, is_painted}
 use Rattle.timefd_lint_drawing.specs.Lines.{begin, head}
 use Rattle.timefd_lint_drawing.specs.Sarif.{sarif_in}
-use Rattle.timefd_lint_drawing.specs.Severities.{paint}
+use Rattle.timefd_lint_drawing.specs.Severities.{paint, word}
 use Rattle.timefd_lint_drawing.specs.Shown.{safe}
 
 starts : (x : ℕ) (xs : Text) → x ∷ xs ≢ []
@@ -34,16 +34,16 @@ head_full colored Error code sentence = after_any (begin colored (paint Error)) 
 head_full colored Warning code sentence = after_any (begin colored (paint Warning)) _ (starts 119 _)
 head_full colored Note code sentence = after_any (begin colored (paint Note)) _ (starts 110 _)
 
-plain_full : (severity : FindingSeverity) (s : Said) → severity ≡ s.severity → plain_head s ≢ []
-plain_full Error s is = rw (sym is) (starts 101 _)
-plain_full Warning s is = rw (sym is) (starts 119 _)
-plain_full Note s is = rw (sym is) (starts 110 _)
+word_full : (severity : FindingSeverity) (rest : Text) → word severity ++ rest ≢ []
+word_full Error rest = starts 101 _
+word_full Warning rest = starts 119 _
+word_full Note rest = starts 110 _
 
 first_full : (kind : FindingKind) (colored : Bool) (s : Said) → head_by kind colored s ≢ []
 first_full Fault colored s = head_full colored s.severity s.code s.message
 first_full Further colored s = head_full colored s.severity s.code s.message
 first_full Labelled colored s = head_full colored s.severity s.code s.message
-first_full Aside colored s = plain_full s.severity s refl
+first_full Aside colored s = word_full s.severity _
 
 drawing_full : (colored : Bool) (l : Located) (s : Said) → drawing colored l s ≢ []
 drawing_full colored l s =

@@ -84,7 +84,8 @@ pub fn char_position_from(first: u64, text: &str, from: Counter, index: usize) -
     }
 }
 
-/// The position of the byte at an index, where the column is as the form counts it: in characters, or as a terminal shows it. An `Err` says that memory ran out.
+/// The position of the byte at an index, where the column is as the form counts it: in characters, or as a terminal shows
+/// it. An `Err` says that memory ran out.
 #[tactic(auto, using(crate::proofs::PositionLemmas::position_of_both))]
 pub fn reported_position_from(
     alloc: Global,

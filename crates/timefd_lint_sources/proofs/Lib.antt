@@ -4,7 +4,7 @@ pub mod ReachLemmas
 mod ItemLemmas
 mod OpeningLemmas
 mod SearchLemmas
-mod VerdictLemmas
+mod JudgementLemmas
 mod JudgedLemmas
 mod ReportedLemmas
 mod ReportLemmas

@@ -15,12 +15,12 @@ use Rattle.timefd_lint_sources.specs.declared.reported.ItemEnd.TheVariants.{Allo
 use Rattle.timefd_lint_sources.specs.declared.reported.SourceText.{SourceText}
 use Rattle.timefd_lint_sources.specs.declared.reported.Reporting.{Reporting}
 use Rattle.timefd_lint_sources.specs.declared.reported.Reported.{Reported}
-use Rattle.timefd_lint_sources.specs.declared.verdict.TextPlace.{TextPlace}
-use Rattle.timefd_lint_sources.specs.declared.verdict.TextJudgement.{TextJudgement}
+use Rattle.timefd_lint_sources.specs.declared.judgement.TextPlace.{TextPlace}
+use Rattle.timefd_lint_sources.specs.declared.judgement.TextJudgement.{TextJudgement}
 use Rattle.timefd_lint_sources.specs.Allowed.{IsLeftOf, count_in, is_covered, left_of}
 use Rattle.timefd_lint_sources.specs.Judged.{text_of}
 use Rattle.timefd_lint_sources.specs.Reported.{IsNoTextReported, IsReported, IsReportedIf}
-use Rattle.timefd_lint_sources.specs.Verdicts.{IsVerdict, levels_of, place_of}
+use Rattle.timefd_lint_sources.specs.Judgements.{IsJudgement, levels_of, place_of}
 use Rattle.timefd_lint_sources.specs.Whole.{IsDrawn, IsTreeAndWarnings, IsTreeWithWarnings, column_of, literal_of, origin_of}
 
 pub no_text : {E : Type 0} (reporting : Reporting) (s : SourceText) (d : SourceDescription) (done : Result Reported E)
@@ -30,27 +30,27 @@ no_text reporting s d (Ok t) not noted = inr (not, noted)
 no_text reporting s d (Err e) not noted = tt
 
 -- The text is the description's.
-pub with_verdict : {E : Type 0} (reporting : Reporting) (s : SourceText) (d : SourceDescription) (place : TextPlace)
-    (text : Text) (verdict : TextJudgement) (done : Result Reported E) → IsUtf8 text → text ≡ text_of d
-    → place ≡ place_of s.finder d → IsVerdict place reporting.levels text verdict
-    → IfOk done (λ t. IsReportedIf (is_covered reporting s d) reporting s d verdict t.end t.message.items)
+pub with_judgement : {E : Type 0} (reporting : Reporting) (s : SourceText) (d : SourceDescription) (place : TextPlace)
+    (text : Text) (judgement : TextJudgement) (done : Result Reported E) → IsUtf8 text → text ≡ text_of d
+    → place ≡ place_of s.finder d → IsJudgement place reporting.levels text judgement
+    → IfOk done (λ t. IsReportedIf (is_covered reporting s d) reporting s d judgement t.end t.message.items)
     → IfOk done (λ t. IsReported reporting s d t.end t.message.items)
-with_verdict reporting s d place text verdict (Ok t) utf8 same there judged reported = inl (
+with_judgement reporting s d place text judgement (Ok t) utf8 same there judged reported = inl (
   subst IsUtf8 same utf8,
   (
-    verdict,
-    subst (λ p. IsVerdict p reporting.levels (text_of d) verdict) there
-        (subst (λ x. IsVerdict place reporting.levels x verdict) same judged),
+    judgement,
+    subst (λ p. IsJudgement p reporting.levels (text_of d) judgement) there
+        (subst (λ x. IsJudgement place reporting.levels x judgement) same judged),
     reported,
   ),
 )
-with_verdict reporting s d place text verdict (Err e) utf8 same there judged reported = tt
+with_judgement reporting s d place text judgement (Err e) utf8 same there judged reported = tt
 
 -- What comments leave is reported.
-pub left_reported : (reporting : Reporting) (s : SourceText) (d : SourceDescription) (verdict left : TextJudgement)
-    (end : ItemEnd) (message : Text) → IsLeftOf s d verdict left → end ≡ Allowed (left_of (count_in verdict) left)
-    → IsDrawn reporting s d left message → IsReportedIf true reporting s d verdict end message
-left_reported reporting s d verdict left end message is ended drawn = (left, is, ended, drawn)
+pub left_reported : (reporting : Reporting) (s : SourceText) (d : SourceDescription) (judgement left : TextJudgement)
+    (end : ItemEnd) (message : Text) → IsLeftOf s d judgement left → end ≡ Allowed (left_of (count_in judgement) left)
+    → IsDrawn reporting s d left message → IsReportedIf true reporting s d judgement end message
+left_reported reporting s d judgement left end message is ended drawn = (left, is, ended, drawn)
 
 -- The literal is at this position.
 pub at_literal : {E : Type 0} (reporting : Reporting) (s : SourceText) (d : SourceDescription) (language : Language)

@@ -8,7 +8,7 @@ use Rattle.timefd_lang_dialect.specs.declared.reading.Converted.{Converted}
 use Rattle.timefd_lang_dialect.specs.Answers.{IsConverted}
 use Rattle.timefd_lang_dialect.specs.Reading.{RefusedAt}
 use Rattle.timefd_lint_drawing.specs.Positions.{after, goes_on}
-use Rattle.timefd_lint_sources.specs.declared.verdict.RefusedParts.{RefusedParts}
+use Rattle.timefd_lint_sources.specs.declared.judgement.RefusedParts.{RefusedParts}
 use Rattle.timefd_lint_sources.specs.Refusing.{is_refused}
 use Rattle.timefd_lint_sources.specs.Search.{IsSearched, IsSpared, MeansAny, Passes, after_sign, moved}
 use Rattle.std.specs.Prelude.{None, Some}

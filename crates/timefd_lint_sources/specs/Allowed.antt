@@ -18,12 +18,12 @@ use Rattle.timefd_lang_warnings.specs.declared.warning.Warning.{Warning}
 use Rattle.timefd_lang_warnings.specs.Codes.{all, name_of}
 use Rattle.timefd_lang_warnings.specs.Levels.{count, with_level}
 use Rattle.timefd_lint_sources.specs.declared.left.Left.{Left}
-use Rattle.timefd_lint_sources.specs.declared.verdict.TextJudgement.{TextJudgement}
-use Rattle.timefd_lint_sources.specs.declared.verdict.TextJudgement.TheVariants.{Accepted, Faulty, Right, Refused}
+use Rattle.timefd_lint_sources.specs.declared.judgement.TextJudgement.{TextJudgement}
+use Rattle.timefd_lint_sources.specs.declared.judgement.TextJudgement.TheVariants.{Accepted, Faulty, Right, Refused}
 use Rattle.timefd_lint_sources.specs.declared.reported.Reporting.{Reporting}
 use Rattle.timefd_lint_sources.specs.declared.reported.SourceText.{SourceText}
 use Rattle.timefd_lint_sources.specs.Allowances.Found.{any_allows, any_covers}
-use Rattle.timefd_lint_sources.specs.Verdicts.{levels_of}
+use Rattle.timefd_lint_sources.specs.Judgements.{levels_of}
 
 -- Comments count, and one is about the description.
 abbrev pub is_covered : Reporting → SourceText → SourceDescription → Bool
@@ -59,7 +59,7 @@ abbrev pub IsRefusalLeft : Bool → RefusedPart → TextJudgement → Type 0
 IsRefusalLeft true part left = (none : Vec Found Global) × (left ≡ Right none) × (none.items ≡ [])
 IsRefusalLeft false part left = left ≡ Refused part
 
--- What is left of a verdict: the warnings, faults and traps that no comment allows, and the part that is refused, unless
+-- What is left of a judgement: the warnings, faults and traps that no comment allows, and the part that is refused, unless
 -- a comment allows that.
 abbrev pub IsLeftOf : SourceText → SourceDescription → TextJudgement → TextJudgement → Type 0
 IsLeftOf s d (Accepted language found) left = left ≡ Accepted language (option_map (levels_left s d) found)
@@ -69,7 +69,7 @@ IsLeftOf s d (Right traps) left = (rest : Vec Found Global) × (left ≡ Right r
     × (rest.items ≡ flat_map (unless_trap s d) traps.items)
 IsLeftOf s d (Refused part) left = IsRefusalLeft (is_allowed s d (reasons.name part.reason)) part left
 
--- How many errors a verdict has, and how many other warnings.
+-- How many errors a judgement has, and how many other warnings.
 abbrev pub errors_in : TextJudgement → ℕ
 errors_in (Accepted language found) = count Denied (levels_of found)
 errors_in (Faulty faults) = length faults.items

@@ -4,7 +4,7 @@ pub mod Calls
 pub mod AtWord
 pub mod Refusing
 pub mod Search
-pub mod Verdicts
+pub mod Judgements
 pub mod Others
 pub mod Allowances
 pub mod Allowed

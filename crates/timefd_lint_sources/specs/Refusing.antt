@@ -5,8 +5,8 @@ use Rattle.timefd_lang_dialect.specs.declared.dialect.Dialect.TheVariants.{Pytho
 use Rattle.timefd_lang_dialect.specs.declared.reason.Reason.{Reason}
 use Rattle.timefd_lang_dialect.specs.declared.reason.Reason.TheVariants.{Backslash, Capitals, DatetimeOnly, DayPeriod, Era, Flag, FractionWidth, GmtOffset, HourFrom0Or24, JulianDay, LocalTime, LocalWeek, Locale, NarrowName, OptionalPart, OrdinalSuffix, PadLetter, Platform, Quarter, ReadingOnly, Reserved, TooManyLetters, TwoDigitYear, TwoLetterName, UnclosedQuote, UnitOfDay, UnknownDirective, UnknownLetter, Unsupported, VariableFraction, VariableOffset, VariableWidth, WeekOfMonth, Width, ZForUtc, ZoneName}
 use Rattle.timefd_lang_dialect.specs.Reasons.{is_unknown}
-use Rattle.timefd_lint_sources.specs.declared.verdict.RefusedParts.{RefusedParts}
-use Rattle.timefd_lint_sources.specs.declared.verdict.RefusedParts.TheVariants.{Unwritable, Unknown}
+use Rattle.timefd_lint_sources.specs.declared.judgement.RefusedParts.{RefusedParts}
+use Rattle.timefd_lint_sources.specs.declared.judgement.RefusedParts.TheVariants.{Unwritable, Unknown}
 
 abbrev pub is_unknown_directive : Reason → Bool
 is_unknown_directive Backslash = false

@@ -15,18 +15,18 @@ use Rattle.timefd_lint_sources.specs.declared.reported.SourceText.{SourceText}
 use Rattle.timefd_lint_sources.specs.declared.reported.Reporting.{Reporting}
 use Rattle.timefd_lint_sources.specs.Items.{AreJudgedAs, IsJudgedAs}
 use Rattle.timefd_lint_sources.specs.Remarks.{AreAllRemarks, AreRemarks, ends_of, messages_of}
-use Rattle.timefd_lint_sources.specs.declared.verdict.TextJudgement.{TextJudgement}
+use Rattle.timefd_lint_sources.specs.declared.judgement.TextJudgement.{TextJudgement}
 use Rattle.timefd_lint_sources.specs.Allowed.{IsLeftOf, all_allowed, count_in, is_allowed, is_covered, left_of}
 use Rattle.timefd_lint_sources.specs.Judged.{text_of}
-use Rattle.timefd_lint_sources.specs.Verdicts.{IsVerdict, place_of}
+use Rattle.timefd_lint_sources.specs.Judgements.{IsJudgement, place_of}
 use Rattle.timefd_lint_sources.specs.Whole.{IsDrawn, end_of, note_of}
 
 -- If no comment is about a description, the outcome says what is wrong with it, and all of that is reported. Otherwise the
 -- outcome says what is left, and that is reported.
 abbrev pub IsReportedIf : Bool → Reporting → SourceText → SourceDescription → TextJudgement → ItemEnd → Text → Type 0
-IsReportedIf false reporting s d verdict end message = (end ≡ end_of verdict) × IsDrawn reporting s d verdict message
-IsReportedIf true reporting s d verdict end message = (left : TextJudgement) × IsLeftOf s d verdict left
-    × (end ≡ Allowed (left_of (count_in verdict) left)) × IsDrawn reporting s d left message
+IsReportedIf false reporting s d judgement end message = (end ≡ end_of judgement) × IsDrawn reporting s d judgement message
+IsReportedIf true reporting s d judgement end message = (left : TextJudgement) × IsLeftOf s d judgement left
+    × (end ≡ Allowed (left_of (count_in judgement) left)) × IsDrawn reporting s d left message
 
 abbrev pub IsNoTextIf : Bool → Reporting → SourceText → SourceDescription → ItemEnd → Text → Type 0
 IsNoTextIf true reporting s d end message = (end ≡ Allowed all_allowed) × (message ≡ [])
@@ -41,8 +41,8 @@ IsNoTextReported reporting s d end message =
 -- doesn't allow.
 abbrev pub IsReported : Reporting → SourceText → SourceDescription → ItemEnd → Text → Type 0
 IsReported reporting s d end message =
-    (IsUtf8 (text_of d) × ((verdict : TextJudgement) × IsVerdict (place_of s.finder d) reporting.levels (text_of d) verdict
-    × IsReportedIf (is_covered reporting s d) reporting s d verdict end message))
+    (IsUtf8 (text_of d) × ((judgement : TextJudgement) × IsJudgement (place_of s.finder d) reporting.levels (text_of d) judgement
+    × IsReportedIf (is_covered reporting s d) reporting s d judgement end message))
     ⊎ ((¬ IsUtf8 (text_of d)) × IsNoTextReported reporting s d end message)
 
 -- The outcome of one more description, and the messages on it, come after those of the others.

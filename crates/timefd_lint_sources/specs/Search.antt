@@ -6,7 +6,7 @@ use Rattle.timefd_lang_dialect.specs.declared.error.RefusedPart.{RefusedPart}
 use Rattle.timefd_lang_dialect.specs.declared.reason.Reason.{Reason}
 use Rattle.timefd_lang_dialect.specs.Reading.{Piece, Means, RefusedAt}
 use Rattle.timefd_lint_drawing.specs.Positions.{after}
-use Rattle.timefd_lint_sources.specs.declared.verdict.RefusedParts.{RefusedParts}
+use Rattle.timefd_lint_sources.specs.declared.judgement.RefusedParts.{RefusedParts}
 use Rattle.timefd_lint_sources.specs.Refusing.{is_refused}
 
 -- what follows the percent sign at an index

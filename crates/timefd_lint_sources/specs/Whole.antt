@@ -15,14 +15,14 @@ use Rattle.timefd_lang_warnings.specs.declared.levels.Levels.{Levels}
 use Rattle.timefd_lint_warnings.specs.Messages.{messages_at}
 use Rattle.timefd_lint_sources.specs.declared.reported.ItemEnd.{ItemEnd}
 use Rattle.timefd_lint_sources.specs.declared.reported.ItemEnd.TheVariants as ends
-use Rattle.timefd_lint_sources.specs.declared.verdict.TextJudgement.{TextJudgement}
-use Rattle.timefd_lint_sources.specs.declared.verdict.TextJudgement.TheVariants.{Accepted, Faulty, Right, Refused}
+use Rattle.timefd_lint_sources.specs.declared.judgement.TextJudgement.{TextJudgement}
+use Rattle.timefd_lint_sources.specs.declared.judgement.TextJudgement.TheVariants.{Accepted, Faulty, Right, Refused}
 use Rattle.timefd_lint_sources.specs.declared.reported.SourceText.{SourceText}
 use Rattle.timefd_lint_sources.specs.declared.reported.Reporting.{Reporting}
 use Rattle.timefd_lint_sources.specs.Calls.{call_note}
 use Rattle.timefd_lint_sources.specs.Judged.{text_of}
 use Rattle.timefd_lint_sources.specs.Others.{refusal_in, trap_in}
-use Rattle.timefd_lint_sources.specs.Verdicts.{levels_of}
+use Rattle.timefd_lint_sources.specs.Judgements.{levels_of}
 
 -- Where a source begins, and the line where the literal of a description begins.
 abbrev pub whole_origin : SourceText → Origin

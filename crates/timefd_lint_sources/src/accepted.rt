@@ -4,11 +4,11 @@ ghost use Rattle.std.specs.Prelude.{◌≡◌, IfOk};
 ghost use Rattle.timefd_lint_drawing.specs.Counted.{IsCounted};
 ghost use Rattle.timefd_lint_explain.specs.Lines.{IsExplainedIf};
 ghost use Rattle.timefd_lint_sources.specs.Judged.{text_of};
-ghost use Rattle.timefd_lint_sources.specs.Verdicts as spec;
+ghost use Rattle.timefd_lint_sources.specs.Judgements as spec;
 ghost use Rattle.timefd_lint_sources.specs.Whole.{IsTreeAndWarnings, IsTreeWithWarnings};
 
+use crate::judgement::levels_of;
 use crate::reported::{FIRST_LINE, Reporting, SourceText};
-use crate::verdict::levels_of;
 use std::alloc::{AllocError, Global};
 use timefd_lang_warnings::Levels;
 use timefd_lint_diagnosis::Span;

@@ -7,8 +7,8 @@ ghost use Rattle.timefd_lint_sources.specs.Allowed as spec;
 
 use crate::allowances::Allowance;
 use crate::cut::between;
+use crate::judgement::TextJudgement;
 use crate::reported::{Reporting, SourceText};
-use crate::verdict::TextJudgement;
 use std::alloc::{AllocError, Global};
 use timefd_lang_dialect::{Found, RefusedPart};
 use timefd_lang_warnings::{Level, Levels, Warning};
@@ -184,7 +184,7 @@ fn warnings_left(
     }
 }
 
-#[tactic(auto, using(crate::proofs::VerdictLemmas::refusal_allowed))]
+#[tactic(auto, using(crate::proofs::JudgementLemmas::refusal_allowed))]
 fn refusal_left(
     alloc: Global,
     source: SourceText<'_>,
@@ -201,16 +201,16 @@ fn refusal_left(
 }
 
 /// What is left of what is wrong with a description, without what comments allow. An `Err` says that memory ran out.
-#[tactic(auto, using(crate::proofs::VerdictLemmas::faulty_left, crate::proofs::VerdictLemmas::traps_left))]
-pub fn verdict_left(
+#[tactic(auto, using(crate::proofs::JudgementLemmas::faulty_left, crate::proofs::JudgementLemmas::traps_left))]
+pub fn judgement_left(
     alloc: Global,
     source: SourceText<'_>,
     description: &SourceDescription,
-    verdict: TextJudgement,
+    judgement: TextJudgement,
 ) -> Result<TextJudgement, AllocError>
-    ensures { IfOk result (spec.IsLeftOf source.entry description.now verdict) }
+    ensures { IfOk result (spec.IsLeftOf source.entry description.now judgement) }
 {
-    match verdict {
+    match judgement {
         TextJudgement::Accepted(language, found) => {
             let left = warnings_left(source, description, found);
             Ok(TextJudgement::Accepted(language, left))

@@ -7,10 +7,10 @@ ghost use Rattle.timefd_lint_sources.specs.Whole as spec;
 
 use crate::accepted::accepted;
 use crate::at_call::call_note;
+use crate::judgement::TextJudgement;
 use crate::other::{refusal_in, traps_in};
 use crate::placed::all_placed_in;
 use crate::reported::{FIRST_LINE, Reporting, SourceText};
-use crate::verdict::TextJudgement;
 use std::alloc::{AllocError, Global};
 use timefd_lint_diagnosis::Diagnostic;
 use timefd_lint_drawing::{Counter, Origin, Style, drawn_all_from};
@@ -25,14 +25,14 @@ pub fn drawn(
     from: Counter,
     description: &SourceDescription,
     text: &str,
-    verdict: TextJudgement,
+    judgement: TextJudgement,
 ) -> Result<Vec<u8>, AllocError>
     requires counted { IsCounted 1 source.text.now from }
     requires text { text.now ≡ text_of description.now }
-    ensures { IfOk result (λ message. spec.IsDrawn reporting source.entry description.now verdict message.items) }
+    ensures { IfOk result (λ message. spec.IsDrawn reporting source.entry description.now judgement message.items) }
 {
     let style = reporting.style;
-    match verdict {
+    match judgement {
         TextJudgement::Accepted(language, found) => {
             accepted(
                 alloc,

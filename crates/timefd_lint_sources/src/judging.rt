@@ -7,14 +7,14 @@ ghost use Rattle.timefd_parse.specs.Placed.{IsPlaced};
 ghost use Rattle.timefd_language.specs.Grammar.{nesting_limit};
 ghost use Rattle.timefd_lint_diagnosis.specs.declared.diagnostic.Diagnostic as diagnostics;
 ghost use Rattle.timefd_lint_diagnosis.specs.Further.{AreFurther, most_further, without};
-ghost use Rattle.timefd_lint_sources.specs.declared.verdict.TextPlace.TheVariants.{Own, Other};
-ghost use Rattle.timefd_lint_sources.specs.Verdicts.{AreTrapsIf, IsAcceptedBy, IsVerdict, found_if, unless_item};
-ghost use Rattle.timefd_lint_sources.specs.Verdicts as spec;
+ghost use Rattle.timefd_lint_sources.specs.declared.judgement.TextPlace.TheVariants.{Own, Other};
+ghost use Rattle.timefd_lint_sources.specs.Judgements.{AreTrapsIf, IsAcceptedBy, IsJudgement, found_if, unless_item};
+ghost use Rattle.timefd_lint_sources.specs.Judgements as spec;
 ghost use Rattle.timefd_parse.specs.Language.{SpellsIn};
 
+use crate::judgement::{RefusedParts, TextJudgement, TextPlace};
 use crate::opening::is_of_item;
 use crate::search::first_refusal;
-use crate::verdict::{RefusedParts, TextJudgement, TextPlace};
 use std::alloc::{AllocError, Global};
 use timefd_lang_dialect::{Dialect, Found, traps};
 use timefd_lang_warnings::Levels;
@@ -25,14 +25,14 @@ use timefd_parse::Language;
 
 /// What is wrong with a text where it stands. Warnings and traps are looked for if they have levels. An `Err` says that
 /// memory ran out.
-#[tactic(auto, using(crate::proofs::VerdictLemmas::in_place))]
+#[tactic(auto, using(crate::proofs::JudgementLemmas::in_place))]
 pub fn judge(
     alloc: Global,
     place: TextPlace,
     levels: Option<Levels>,
     text: &str,
 ) -> Result<TextJudgement, AllocError>
-    ensures { IfOk result (IsVerdict place levels text.now) }
+    ensures { IfOk result (IsJudgement place levels text.now) }
 {
     match place {
         TextPlace::Own(language, items) => judge_own(alloc, language, items, levels, text),
@@ -48,7 +48,7 @@ fn judge_own(
     levels: Option<Levels>,
     text: &str,
 ) -> Result<TextJudgement, AllocError>
-    ensures { IfOk result (IsVerdict (Own language items) levels text.now) }
+    ensures { IfOk result (IsJudgement (Own language items) levels text.now) }
 {
     match warned_at_once(alloc, language, levels, text) {
         Some(found) => Ok(TextJudgement::Accepted(language, Some(found))),
@@ -79,7 +79,7 @@ fn judge_step_by_step(
     levels: Option<Levels>,
     text: &str,
 ) -> Result<TextJudgement, AllocError>
-    ensures { IfOk result (IsVerdict (Own language items) levels text.now) }
+    ensures { IfOk result (IsJudgement (Own language items) levels text.now) }
 {
     match diagnose(alloc, language, text)? {
         None => {
@@ -170,7 +170,7 @@ fn is_left_out(items: Items, diagnostic: &Diagnostic) -> bool
 }
 
 // What is wrong with a format of another language or library.
-#[tactic(auto, using(crate::proofs::VerdictLemmas::is_right, crate::proofs::VerdictLemmas::is_refused))]
+#[tactic(auto, using(crate::proofs::JudgementLemmas::is_right, crate::proofs::JudgementLemmas::is_refused))]
 fn judge_other(
     alloc: Global,
     dialect: Dialect,
@@ -178,7 +178,7 @@ fn judge_other(
     levels: Option<Levels>,
     text: &str,
 ) -> Result<TextJudgement, AllocError>
-    ensures { IfOk result (IsVerdict (Other dialect parts) levels text.now) }
+    ensures { IfOk result (IsJudgement (Other dialect parts) levels text.now) }
 {
     match first_refusal(alloc, parts, dialect, text)? {
         Some(part) => Ok(TextJudgement::Refused(part)),

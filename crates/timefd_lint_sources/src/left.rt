@@ -3,7 +3,7 @@
 ghost use Rattle.std.specs.Prelude.{◌≡◌};
 ghost use Rattle.timefd_lint_sources.specs.Allowed as spec;
 
-use crate::verdict::{TextJudgement, levels_of};
+use crate::judgement::{TextJudgement, levels_of};
 use timefd_lang_warnings::Level;
 
 /// What is left of what is wrong with a description, if a comment is about it.
@@ -40,16 +40,16 @@ pub fn left_of(found: u64, left: &TextJudgement) -> Left
 }
 
 /// How many errors and warnings are reported of a text.
-pub fn count_in(verdict: &TextJudgement) -> u64
-    ensures { result ≡ spec.count_in verdict.now }
+pub fn count_in(judgement: &TextJudgement) -> u64
+    ensures { result ≡ spec.count_in judgement.now }
 {
-    errors_in(verdict).saturating_add(warnings_in(verdict))
+    errors_in(judgement).saturating_add(warnings_in(judgement))
 }
 
-fn errors_in(verdict: &TextJudgement) -> u64
-    ensures { result ≡ spec.errors_in verdict.now }
+fn errors_in(judgement: &TextJudgement) -> u64
+    ensures { result ≡ spec.errors_in judgement.now }
 {
-    match verdict {
+    match judgement {
         TextJudgement::Accepted(_, found) => levels_of(*found).count(Level::Denied),
         TextJudgement::Faulty(faults) => faults.len() as u64,
         TextJudgement::Right(_) => 0,
@@ -57,10 +57,10 @@ fn errors_in(verdict: &TextJudgement) -> u64
     }
 }
 
-fn warnings_in(verdict: &TextJudgement) -> u64
-    ensures { result ≡ spec.warnings_in verdict.now }
+fn warnings_in(judgement: &TextJudgement) -> u64
+    ensures { result ≡ spec.warnings_in judgement.now }
 {
-    match verdict {
+    match judgement {
         TextJudgement::Accepted(_, found) => levels_of(*found).count(Level::Warned),
         TextJudgement::Right(traps) => traps.len() as u64,
         TextJudgement::Faulty(_) | TextJudgement::Refused(_) => 0,

@@ -11,6 +11,7 @@ mod cut;
 mod drawn;
 mod item;
 mod judged;
+mod judgement;
 mod judging;
 mod language;
 mod left;
@@ -23,7 +24,6 @@ mod remark;
 mod reported;
 mod search;
 mod source;
-mod verdict;
 
 // Comments that allow errors and warnings.
 pub mod allowances;
@@ -35,6 +35,7 @@ pub use accepted::tree_with_warnings;
 pub use allowed::is_allowed;
 pub use codes::{Coded, push_codes};
 pub use judged::holds_item;
+pub use judgement::{RefusedParts, TextJudgement, TextPlace, levels_of, place_of};
 pub use judging::judge;
 pub use language::{is_passed_over, language_of, other_of};
 pub use left::Left;
@@ -45,4 +46,3 @@ pub use reported::{FIRST_LINE, Finder, ItemEnd, Reported, Reporting, SourceText}
 pub use source::{
     Judged, Report, descriptions_in, judged_in, judged_with_remarks, lint_source, report_all,
 };
-pub use verdict::{RefusedParts, TextJudgement, TextPlace, levels_of, place_of};

@@ -3,7 +3,7 @@
 ghost use Rattle.std.specs.Prelude.{◌≡◌};
 ghost use Rattle.timefd_lint_sources.specs.Refusing as spec;
 
-use crate::verdict::RefusedParts;
+use crate::judgement::RefusedParts;
 use timefd_lang_dialect::{Dialect, Reason};
 
 /// Whether a part is refused, where these parts are, that version 3 can't write for this reason.

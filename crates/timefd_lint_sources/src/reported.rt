@@ -9,11 +9,11 @@ ghost use Rattle.timefd_lint_sources.specs.Whole as spec;
 ghost use Rattle.timefd_lint_sources.specs.Whole.{note_of};
 
 use crate::allowances::Allowance;
-use crate::allowed::{is_allowed, is_covered, verdict_left};
+use crate::allowed::{is_allowed, is_covered, judgement_left};
 use crate::drawn::drawn;
+use crate::judgement::{TextJudgement, levels_of, place_of};
 use crate::judging::judge;
 use crate::left::{Left, all_allowed, count_in, left_of};
-use crate::verdict::{TextJudgement, levels_of, place_of};
 use std::alloc::{AllocError, Global};
 use std::str;
 use timefd_lang_warnings::Levels;
@@ -112,7 +112,7 @@ pub fn report(
 }
 
 // Checks a description with this text.
-#[tactic(auto, using(crate::proofs::ReportedLemmas::with_verdict))]
+#[tactic(auto, using(crate::proofs::ReportedLemmas::with_judgement))]
 fn judged(
     alloc: Global,
     reporting: Reporting,
@@ -127,29 +127,29 @@ fn judged(
         reported.end reported.message.items) }
 {
     let place = place_of(source.finder, description);
-    let verdict = judge(alloc, place, reporting.levels, text)?;
-    report_verdict(alloc, reporting, source, from, description, text, verdict)
+    let judgement = judge(alloc, place, reporting.levels, text)?;
+    report_judgement(alloc, reporting, source, from, description, text, judgement)
 }
 
 // Reports what is wrong with a description, or what is left of that if a comment is about it.
-fn report_verdict(
+fn report_judgement(
     alloc: Global,
     reporting: Reporting,
     source: SourceText<'_>,
     from: Counter,
     description: &SourceDescription,
     text: &str,
-    verdict: TextJudgement,
+    judgement: TextJudgement,
 ) -> Result<Reported, AllocError>
     requires counted { IsCounted 1 source.text.now from }
     requires text { text.now ≡ text_of description.now }
     ensures { IfOk result (λ reported. IsReportedIf (is_covered reporting source.entry description.now) reporting
-        source.entry description.now verdict reported.end reported.message.items) }
+        source.entry description.now judgement reported.end reported.message.items) }
 {
     if is_covered(reporting, source, description) {
-        report_left(alloc, reporting, source, from, description, text, verdict)
+        report_left(alloc, reporting, source, from, description, text, judgement)
     } else {
-        report_whole(alloc, reporting, source, from, description, text, verdict)
+        report_whole(alloc, reporting, source, from, description, text, judgement)
     }
 }
 
@@ -161,15 +161,15 @@ fn report_whole(
     from: Counter,
     description: &SourceDescription,
     text: &str,
-    verdict: TextJudgement,
+    judgement: TextJudgement,
 ) -> Result<Reported, AllocError>
     requires counted { IsCounted 1 source.text.now from }
     requires text { text.now ≡ text_of description.now }
-    ensures { IfOk result (λ reported. IsReportedIf false reporting source.entry description.now verdict
+    ensures { IfOk result (λ reported. IsReportedIf false reporting source.entry description.now judgement
         reported.end reported.message.items) }
 {
-    let end = end_of(&verdict);
-    let message = drawn(alloc, reporting, source, from, description, text, verdict)?;
+    let end = end_of(&judgement);
+    let message = drawn(alloc, reporting, source, from, description, text, judgement)?;
     Ok(Reported { end, message })
 }
 
@@ -182,25 +182,25 @@ fn report_left(
     from: Counter,
     description: &SourceDescription,
     text: &str,
-    verdict: TextJudgement,
+    judgement: TextJudgement,
 ) -> Result<Reported, AllocError>
     requires counted { IsCounted 1 source.text.now from }
     requires text { text.now ≡ text_of description.now }
-    ensures { IfOk result (λ reported. IsReportedIf true reporting source.entry description.now verdict
+    ensures { IfOk result (λ reported. IsReportedIf true reporting source.entry description.now judgement
         reported.end reported.message.items) }
 {
-    let found = count_in(&verdict);
-    let left = verdict_left(alloc, source, description, verdict)?;
+    let found = count_in(&judgement);
+    let left = judgement_left(alloc, source, description, judgement)?;
     let end = ItemEnd::Allowed(left_of(found, &left));
     let message = drawn(alloc, reporting, source, from, description, text, left)?;
     Ok(Reported { end, message })
 }
 
 // The outcome of a description that no comment is about.
-fn end_of(verdict: &TextJudgement) -> ItemEnd
-    ensures { result ≡ spec.end_of verdict.now }
+fn end_of(judgement: &TextJudgement) -> ItemEnd
+    ensures { result ≡ spec.end_of judgement.now }
 {
-    match verdict {
+    match judgement {
         TextJudgement::Accepted(_, found) => ItemEnd::Accepted(levels_of(*found)),
         TextJudgement::Right(traps) => ItemEnd::Converted(traps.len() as u64),
         TextJudgement::Faulty(_) | TextJudgement::Refused(_) => ItemEnd::Refused,

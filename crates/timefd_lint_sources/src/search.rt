@@ -5,8 +5,8 @@ ghost use Rattle.timefd_lang_dialect.specs.Reading.{RefusedAt};
 ghost use Rattle.timefd_lint_sources.specs.Search as spec;
 
 use crate::cut::after_index;
+use crate::judgement::RefusedParts;
 use crate::refusing::is_refused;
-use crate::verdict::RefusedParts;
 use std::alloc::{AllocError, Global};
 use timefd_lang_dialect::{Dialect, DialectError, RefusedPart, to_version_three};
 

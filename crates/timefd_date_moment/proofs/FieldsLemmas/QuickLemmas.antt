@@ -82,6 +82,10 @@ by_name c field names b first text old new r is takes =
 inside : (l h n len : ℕ) → l ≤ n → n ≤ h → within l h (Some (n, len)) ≡ Some (n, len)
 inside l h n len low high = rw (le-leb l n low) (rw (le-leb n h high) refl)
 
+pub number_inside : (l h n : ℕ) (text : Text) → digits 2 2 text ≡ Some (n, 2) → l ≤ n → n ≤ h
+    → within l h (digits 2 2 text) ≡ Some (n, 2)
+number_inside l h n text found low high = ap (λ x. within l h x) found ∙ inside l h n 2 low high
+
 pub two_taken : (field : Count) (l h n : ℕ) (text : Text) (old new : Fields)
     → digits 2 2 text ≡ Some (n, 2) → 2 ≤ length text → l ≤ n → n ≤ h
     → count_with old field n (count old field) ≡ Some new

@@ -9,17 +9,27 @@ use Rattle.timefd_date_moment.specs.declared.fields.fields.Amount.{Amount}
 use Rattle.timefd_date_moment.specs.declared.fields.fields.Count.{Count}
 use Rattle.timefd_date_moment.specs.declared.fields.fields.Fields.{Fields}
 use Rattle.timefd_date_moment.specs.declared.fields.reading.Reading.{Reading}
+use Rattle.timefd_date_moment.specs.declared.fields.reading.Reading.TheVariants as reads
 use Rattle.timefd_date_moment.specs.declared.fields.rule.NameList.{NameList}
 use Rattle.timefd_date_moment.specs.declared.fields.rule.NumberForm.{NumberForm}
 use Rattle.timefd_date_moment.specs.declared.fields.rule.FieldRule.TheVariants as by
 use Rattle.timefd_date_moment.specs.declared.fields.short.Numbers.{Numbers}
+use Rattle.timefd_date_moment.specs.Fields.Fields.{count}
 use Rattle.timefd_date_moment.specs.Fields.Inputs.{as_amount, as_count, input, name}
 use Rattle.timefd_date_moment.specs.Fields.Numbers.{digits, signed, within}
-use Rattle.timefd_date_moment.specs.Fields.Readings.{with_reading}
+use Rattle.timefd_date_moment.specs.Fields.Readings.{count_with, with_reading}
 use Rattle.timefd_date_moment.specs.Fields.Reads.{Point, TakesFront, agreed, at, ended, fields_of, read, read_all, start, taken, whole}
 use Rattle.timefd_date_moment.specs.Fields.Rules.{rule_of}
 use Rattle.timefd_date_moment.specs.Fields.Short.{TakesNumber, fields_with}
 use Rattle.timefd_date_moment.proofs.FieldsLemmas.QuickLemmas as quick
+
+-- A number of two digits that is in the range is taken.
+pub two_shown : (field : Count) (l h n : ℕ) (text : Text) (old new : Numbers)
+    → within l h (digits 2 2 text) ≡ Some (n, 2) → 2 ≤ length text
+    → count_with (fields_with old) field n (count (fields_with old) field) ≡ Some (fields_with new)
+    → TakesNumber (as_count field (within l h (digits 2 2 text))) text old (Some (2, new))
+two_shown field l h n text old new found long takes =
+    (reads.Count field n, ap (λ x. as_count field x) found, takes, long)
 
 pub number_by : (c : Component) (field : Count) (l h : ℕ) (text : Text) (old : Numbers) (r : Option (ℕ × Numbers))
     → by.Number field Padding.Zero 2 l h ≡ rule_of c

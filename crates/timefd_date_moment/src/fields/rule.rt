@@ -252,7 +252,7 @@ fn extended_year(padding: Padding) -> NumberForm
     }
 }
 
-fn standard_year(padding: Padding) -> NumberForm
+pub(crate) fn standard_year(padding: Padding) -> NumberForm
     ensures { result ≡ spec.standard_year padding }
 {
     NumberForm {

@@ -6,8 +6,7 @@ ghost use Rattle.timefd_lang_component.specs.Modern.{modern};
 ghost use Rattle.timefd_lang_component.specs.Tree.{compound, trees};
 ghost use Rattle.timefd_lang_node_list.specs.LeafMeaning.{leaf_tree};
 ghost use Rattle.timefd_date_moment.specs.Fields.Fields.{amount, count};
-ghost use Rattle.timefd_date_moment.specs.Fields.Inputs.{as_amount, as_count, input, name};
-ghost use Rattle.timefd_date_moment.specs.Fields.Numbers.{digits, signed, within};
+ghost use Rattle.timefd_date_moment.specs.Fields.Inputs.{input};
 ghost use Rattle.timefd_date_moment.specs.Fields.Readings.{amount_with, count_with};
 ghost use Rattle.timefd_date_moment.specs.Fields.Reads as spec;
 ghost use Rattle.timefd_date_moment.specs.Fields.Reads.{at, fields_of};
@@ -15,11 +14,12 @@ ghost use Rattle.timefd_date_moment.specs.Fields.Rules as rules;
 ghost use Rattle.timefd_date_moment.specs.Fields.Short as short;
 ghost use Rattle.timefd_date_moment.specs.Fields.Short.{TakesNumber, fields_with};
 
-use crate::fields::digits::{four_digits, two_digits};
 use crate::fields::fields::{Amount, Count, Fields, NO_FIELDS, Signed};
-use crate::fields::names::leading_name;
 use crate::fields::part::begins;
-use crate::fields::rule::{FieldRule, NameList, NumberForm, rule_of};
+use crate::fields::rule::{FieldRule, rule_of};
+use crate::fields::taken::{
+    take_day, take_hour, take_minute, take_month, take_month_name, take_second, take_year,
+};
 use timefd_lang_component::Component;
 use timefd_lang_node_list::Leaf;
 use timefd_modifier::Padding;
@@ -63,64 +63,84 @@ impl Numbers {
         }
     }
 
-    /// Adds one more number. `None` if that field was read before.
+    /// Adds a month. `None` if one was read before.
     #[inline(always)]
-    fn with(self, field: Count, number: u16) -> Option<Numbers>
-        ensures { IfSome result (λ after. count_with (fields_with self) field number
-            (count (fields_with self) field) ≡ Some (fields_with after)) }
+    pub(crate) fn with_month(self, month: u16) -> Option<Numbers>
+        ensures { IfSome result (λ after. count_with (fields_with self) Count.Month month
+            (count (fields_with self) Count.Month) ≡ Some (fields_with after)) }
     {
-        match field {
-            Count::Month => match self.month {
-                None => Some(Numbers {
-                    month: Some(number),
-                    ..self
-                }),
-                Some(_) => None,
-            },
-            Count::Day => match self.day {
-                None => Some(Numbers {
-                    day: Some(number),
-                    ..self
-                }),
-                Some(_) => None,
-            },
-            Count::Hour => match self.hour {
-                None => Some(Numbers {
-                    hour: Some(number),
-                    ..self
-                }),
-                Some(_) => None,
-            },
-            Count::Minute => match self.minute {
-                None => Some(Numbers {
-                    minute: Some(number),
-                    ..self
-                }),
-                Some(_) => None,
-            },
-            Count::Second => match self.second {
-                None => Some(Numbers {
-                    second: Some(number),
-                    ..self
-                }),
-                Some(_) => None,
-            },
-            Count::YearLastTwo
-            | Count::IsoYearLastTwo
-            | Count::Ordinal
-            | Count::Weekday
-            | Count::IsoWeek
-            | Count::SundayWeek
-            | Count::MondayWeek
-            | Count::Hour12
-            | Count::OffsetMinute
-            | Count::OffsetSecond => None,
+        match self.month {
+            None => Some(Numbers {
+                month: Some(month),
+                ..self
+            }),
+            Some(_) => None,
+        }
+    }
+
+    /// Adds a day. `None` if one was read before.
+    #[inline(always)]
+    pub(crate) fn with_day(self, day: u16) -> Option<Numbers>
+        ensures { IfSome result (λ after. count_with (fields_with self) Count.Day day
+            (count (fields_with self) Count.Day) ≡ Some (fields_with after)) }
+    {
+        match self.day {
+            None => Some(Numbers {
+                day: Some(day),
+                ..self
+            }),
+            Some(_) => None,
+        }
+    }
+
+    /// Adds an hour. `None` if one was read before.
+    #[inline(always)]
+    pub(crate) fn with_hour(self, hour: u16) -> Option<Numbers>
+        ensures { IfSome result (λ after. count_with (fields_with self) Count.Hour hour
+            (count (fields_with self) Count.Hour) ≡ Some (fields_with after)) }
+    {
+        match self.hour {
+            None => Some(Numbers {
+                hour: Some(hour),
+                ..self
+            }),
+            Some(_) => None,
+        }
+    }
+
+    /// Adds a minute. `None` if one was read before.
+    #[inline(always)]
+    pub(crate) fn with_minute(self, minute: u16) -> Option<Numbers>
+        ensures { IfSome result (λ after. count_with (fields_with self) Count.Minute minute
+            (count (fields_with self) Count.Minute) ≡ Some (fields_with after)) }
+    {
+        match self.minute {
+            None => Some(Numbers {
+                minute: Some(minute),
+                ..self
+            }),
+            Some(_) => None,
+        }
+    }
+
+    /// Adds a second. `None` if one was read before.
+    #[inline(always)]
+    pub(crate) fn with_second(self, second: u16) -> Option<Numbers>
+        ensures { IfSome result (λ after. count_with (fields_with self) Count.Second second
+            (count (fields_with self) Count.Second) ≡ Some (fields_with after)) }
+    {
+        match self.second {
+            None => Some(Numbers {
+                second: Some(second),
+                ..self
+            }),
+            Some(_) => None,
         }
     }
 
     /// Adds a year. `None` if one was read before.
     #[inline(always)]
-    fn with_year(self, year: u16) -> Option<Numbers>
+    pub(crate) fn with_year(self, year: u16) -> Option<Numbers>
         ensures { IfSome result (λ after. amount_with (fields_with self) Amount.Year
             (record { is_negative = false; magnitude = year }) (amount (fields_with self) Amount.Year)
             ≡ Some (fields_with after)) }
@@ -209,9 +229,9 @@ pub fn take_leaf(leaf: &Leaf<'_>, text: &[u8], numbers: Numbers) -> Option<(usiz
     }
 }
 
-/// Takes literal text.
+/// Takes literal text: how many bytes it has, and the same numbers. `None` if the text doesn't begin with it.
 #[inline(always)]
-fn take_literal(literal: &[u8], text: &[u8], numbers: Numbers) -> Option<(usize, Numbers)>
+pub fn take_literal(literal: &[u8], text: &[u8], numbers: Numbers) -> Option<(usize, Numbers)>
     ensures within { IfSome result (λ r. r.0 ≤ length text.now) }
     ensures reads { IfSome result (λ r. spec.read_literal literal.now (at text.now (fields_with numbers))
         ≡ Ok (at (drop r.0 text.now) (fields_with r.1))) }
@@ -237,41 +257,41 @@ fn take_component(component: Component, text: &[u8], numbers: Numbers) -> Option
             width: 2,
             lowest,
             highest,
-        } => take_two(Count::Month, lowest, highest, text, numbers),
+        } => take_month(lowest, highest, text, numbers),
         FieldRule::Number {
             field: Count::Day,
             padding: Padding::Zero,
             width: 2,
             lowest,
             highest,
-        } => take_two(Count::Day, lowest, highest, text, numbers),
+        } => take_day(lowest, highest, text, numbers),
         FieldRule::Number {
             field: Count::Hour,
             padding: Padding::Zero,
             width: 2,
             lowest,
             highest,
-        } => take_two(Count::Hour, lowest, highest, text, numbers),
+        } => take_hour(lowest, highest, text, numbers),
         FieldRule::Number {
             field: Count::Minute,
             padding: Padding::Zero,
             width: 2,
             lowest,
             highest,
-        } => take_two(Count::Minute, lowest, highest, text, numbers),
+        } => take_minute(lowest, highest, text, numbers),
         FieldRule::Number {
             field: Count::Second,
             padding: Padding::Zero,
             width: 2,
             lowest,
             highest,
-        } => take_two(Count::Second, lowest, highest, text, numbers),
+        } => take_second(lowest, highest, text, numbers),
         FieldRule::Name {
             field: Count::Month,
             names,
             is_case_sensitive,
             first: 1,
-        } => take_month(names, is_case_sensitive, text, numbers),
+        } => take_month_name(names, is_case_sensitive, text, numbers),
         FieldRule::Signed {
             field: Amount::Year,
             is_mandatory: false,
@@ -279,70 +299,4 @@ fn take_component(component: Component, text: &[u8], numbers: Numbers) -> Option
         } => take_year(form, text, numbers),
         _ => None,
     }
-}
-
-/// Takes the name of a month.
-#[inline(always)]
-fn take_month(
-    names: NameList,
-    is_case_sensitive: bool,
-    text: &[u8],
-    numbers: Numbers,
-) -> Option<(usize, Numbers)>
-    ensures { TakesNumber (name Count.Month names is_case_sensitive 1 text.now) text.now numbers result }
-{
-    let found = leading_name(text, names, is_case_sensitive)?;
-    let after = numbers.with(Count::Month, 1 + found.0 as u16)?;
-    Some((found.1, after))
-}
-
-/// Takes a number of two digits that is in the range.
-#[inline(always)]
-fn take_two(
-    field: Count,
-    lowest: u16,
-    highest: u16,
-    text: &[u8],
-    numbers: Numbers,
-) -> Option<(usize, Numbers)>
-    ensures { TakesNumber (as_count field (within lowest highest (digits 2 2 text.now))) text.now numbers
-        result }
-{
-    let number = two_digits(text)?;
-    if number < lowest || highest < number {
-        return None;
-    }
-    let after = numbers.with(field, number)?;
-    Some((2, after))
-}
-
-/// Takes the four digits of a year.
-#[inline(always)]
-fn take_year(form: NumberForm, text: &[u8], numbers: Numbers) -> Option<(usize, Numbers)>
-    ensures { TakesNumber (as_amount Amount.Year (signed false form text.now)) text.now numbers result }
-{
-    if let NumberForm {
-        padding: Padding::Zero,
-        width: 4,
-        most: 4,
-        ..
-    } = form
-    {
-        take_four(form, text, numbers)
-    } else {
-        None
-    }
-}
-
-#[inline(always)]
-fn take_four(form: NumberForm, text: &[u8], numbers: Numbers) -> Option<(usize, Numbers)>
-    requires { rules.IsFour form }
-    ensures { TakesNumber (as_amount Amount.Year (signed false form text.now)) text.now numbers result }
-{
-    let year = four_digits(text)?;
-    if (year as u128) > form.greatest {
-        return None;
-    }
-    let after = numbers.with_year(year)?;
-    Some((4, after))
 }

@@ -18,11 +18,11 @@ use Rattle.timefd_lint_lsp.specs.Editor.Others.{IsTrap}
 use Rattle.timefd_lint_lsp.specs.Editor.Findings.{AreBy, AreFaults, AreOn, IsFault, fault_words}
 use Rattle.timefd_lang_fault.specs.Faults.{fault_of}
 use Rattle.timefd_lint_sources.specs.declared.reported.Finder.{Finder}
-use Rattle.timefd_lint_sources.specs.declared.verdict.TextPlace.{TextPlace}
-use Rattle.timefd_lint_sources.specs.declared.verdict.TextJudgement.{TextJudgement}
-use Rattle.timefd_lint_sources.specs.declared.verdict.TextJudgement.TheVariants.{Accepted, Faulty, Right}
+use Rattle.timefd_lint_sources.specs.declared.judgement.TextPlace.{TextPlace}
+use Rattle.timefd_lint_sources.specs.declared.judgement.TextJudgement.{TextJudgement}
+use Rattle.timefd_lint_sources.specs.declared.judgement.TextJudgement.TheVariants.{Accepted, Faulty, Right}
 use Rattle.timefd_lint_sources.specs.Judged.{text_of}
-use Rattle.timefd_lint_sources.specs.Verdicts.{IsVerdict, levels_of, place_of}
+use Rattle.timefd_lint_sources.specs.Judgements.{IsJudgement, levels_of, place_of}
 use Rattle.timefd_lint_scan.specs.declared.description.SourceDescription.{SourceDescription}
 use Rattle.timefd_lint_scan.specs.Found.{index_in_source}
 use Rattle.timefd_lang_warnings.specs.declared.levels.Levels.{Levels}
@@ -34,50 +34,50 @@ no_text levels finder text d before after (Ok x) not (found, note, added) = (fou
 no_text levels finder text d before after (Err e) not added = tt
 
 -- A description is judged where it stands.
-pub with_verdict : {R E : Type 0} (levels : Option Levels) (finder : Finder) (text : Text) (d : SourceDescription)
-    (place : TextPlace) (description : Text) (verdict : TextJudgement) (before after : List Finding) (done : Result R E)
+pub with_judgement : {R E : Type 0} (levels : Option Levels) (finder : Finder) (text : Text) (d : SourceDescription)
+    (place : TextPlace) (description : Text) (judgement : TextJudgement) (before after : List Finding) (done : Result R E)
     → IsUtf8 description → description ≡ text_of d → place ≡ place_of finder d
-    → IsVerdict place levels description verdict → OnOk done (Adds (AreBy text d verdict) before after)
+    → IsJudgement place levels description judgement → OnOk done (Adds (AreBy text d judgement) before after)
     → OnOk done (Adds (AreOn levels finder text d) before after)
-with_verdict levels finder text d place description verdict before after (Ok x) utf8 same there judged
+with_judgement levels finder text d place description judgement before after (Ok x) utf8 same there judged
     (more, are, added) = (
       more,
       inl (
         subst IsUtf8 same utf8,
         (
-          verdict,
-          subst (λ p. IsVerdict p levels (text_of d) verdict) there
-              (subst (λ t. IsVerdict place levels t verdict) same judged),
+          judgement,
+          subst (λ p. IsJudgement p levels (text_of d) judgement) there
+              (subst (λ t. IsJudgement place levels t judgement) same judged),
           are,
         ),
       ),
       added,
     )
-with_verdict levels finder text d place description verdict before after (Err e) utf8 same there judged added = tt
+with_judgement levels finder text d place description judgement before after (Err e) utf8 same there judged added = tt
 
--- What a verdict has is handed on as levels and slices.
+-- What a judgement has is handed on as levels and slices.
 
-pub by_warnings : {R E : Type 0} (text : Text) (d : SourceDescription) (verdict : TextJudgement) (language : Language)
+pub by_warnings : {R E : Type 0} (text : Text) (d : SourceDescription) (judgement : TextJudgement) (language : Language)
     (warned : Option Levels) (given : Levels) (before after : List Finding) (done : Result R E)
-    → verdict ≡ Accepted language warned → given ≡ levels_of warned
-    → OnOk done (Adds (AreWarnings text d given) before after) → OnOk done (Adds (AreBy text d verdict) before after)
-by_warnings text d verdict language warned given before after done is same added =
+    → judgement ≡ Accepted language warned → given ≡ levels_of warned
+    → OnOk done (Adds (AreWarnings text d given) before after) → OnOk done (Adds (AreBy text d judgement) before after)
+by_warnings text d judgement language warned given before after done is same added =
     subst (λ v. OnOk done (Adds (AreBy text d v) before after)) (sym is)
     (subst (λ l. OnOk done (Adds (AreWarnings text d l) before after)) same added)
 
-pub by_faults : {R E : Type 0} (text : Text) (d : SourceDescription) (verdict : TextJudgement)
+pub by_faults : {R E : Type 0} (text : Text) (d : SourceDescription) (judgement : TextJudgement)
     (faults : Vec Diagnostic Global) (given : List Diagnostic) (before after : List Finding) (done : Result R E)
-    → verdict ≡ Faulty faults → given ≡ faults.items → OnOk done (Adds (AreFaults text d given) before after)
-    → OnOk done (Adds (AreBy text d verdict) before after)
-by_faults text d verdict faults given before after done is same added =
+    → judgement ≡ Faulty faults → given ≡ faults.items → OnOk done (Adds (AreFaults text d given) before after)
+    → OnOk done (Adds (AreBy text d judgement) before after)
+by_faults text d judgement faults given before after done is same added =
     subst (λ v. OnOk done (Adds (AreBy text d v) before after)) (sym is)
     (subst (λ l. OnOk done (Adds (AreFaults text d l) before after)) same added)
 
-pub by_traps : {R E : Type 0} (text : Text) (d : SourceDescription) (verdict : TextJudgement) (traps : Vec Found Global)
-    (given : List Found) (before after : List Finding) (done : Result R E) → verdict ≡ Right traps
+pub by_traps : {R E : Type 0} (text : Text) (d : SourceDescription) (judgement : TextJudgement) (traps : Vec Found Global)
+    (given : List Found) (before after : List Finding) (done : Result R E) → judgement ≡ Right traps
     → given ≡ traps.items → OnOk done (Adds (AreOf (IsTrap text d) given) before after)
-    → OnOk done (Adds (AreBy text d verdict) before after)
-by_traps text d verdict traps given before after done is same added =
+    → OnOk done (Adds (AreBy text d judgement) before after)
+by_traps text d judgement traps given before after done is same added =
     subst (λ v. OnOk done (Adds (AreBy text d v) before after)) (sym is)
     (subst (λ l. OnOk done (Adds (AreOf (IsTrap text d) l) before after)) same added)
 

@@ -13,14 +13,14 @@ use Rattle.timefd_lint_lsp.specs.Editor.Finding.{AreWarnings, IsNote, IsOne}
 use Rattle.timefd_lint_lsp.specs.Editor.Others.{IsRefusal, IsTrap}
 use Rattle.timefd_lint_lsp.specs.Editor.Remarked.{IsRemarked}
 use Rattle.timefd_lang_fault.specs.Faults.{fault_of}
-use Rattle.timefd_lint_sources.specs.declared.verdict.TextJudgement.{TextJudgement}
-use Rattle.timefd_lint_sources.specs.declared.verdict.TextJudgement.TheVariants.{Accepted, Faulty, Right, Refused}
+use Rattle.timefd_lint_sources.specs.declared.judgement.TextJudgement.{TextJudgement}
+use Rattle.timefd_lint_sources.specs.declared.judgement.TextJudgement.TheVariants.{Accepted, Faulty, Right, Refused}
 use Rattle.timefd_lint_sources.specs.declared.reported.Finder.{Finder}
 use Rattle.timefd_lint_sources.specs.declared.reported.SourceText.{SourceText}
 use Rattle.timefd_lint_sources.specs.Allowances.Found.{AreAllowances}
 use Rattle.timefd_lint_sources.specs.Allowed.{is_allowed}
 use Rattle.timefd_lint_sources.specs.Judged.{text_of}
-use Rattle.timefd_lint_sources.specs.Verdicts.{IsVerdict, levels_of, place_of}
+use Rattle.timefd_lint_sources.specs.Judgements.{IsJudgement, levels_of, place_of}
 use Rattle.timefd_lint_sources.specs.declared.remark.Remark.{Remark}
 use Rattle.timefd_lint_sources.specs.Reported.{AreJudgedIn, AreRemarksOn}
 use Rattle.timefd_lint_scan.specs.declared.description.SourceDescription.{SourceDescription}
@@ -53,8 +53,8 @@ AreBy text d (Refused part) found = IsRefusal text d part found
 -- What is wrong with a description where it stands, if it is UTF-8.
 abbrev pub AreOn : Option Levels → Finder → Text → SourceDescription → List Finding → Type 0
 AreOn levels finder text d found =
-    (IsUtf8 (text_of d) × ((verdict : TextJudgement) × IsVerdict (place_of finder d) levels (text_of d) verdict
-    × AreBy text d verdict found))
+    (IsUtf8 (text_of d) × ((judgement : TextJudgement) × IsJudgement (place_of finder d) levels (text_of d) judgement
+    × AreBy text d judgement found))
     ⊎ ((¬ IsUtf8 (text_of d)) × IsNote text d found)
 
 -- a finding, unless a comment allows its code

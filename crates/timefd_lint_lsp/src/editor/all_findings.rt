@@ -158,7 +158,7 @@ fn push_on(
 }
 
 // Adds what is wrong with a description that has this text.
-#[tactic(auto, using(crate::proofs::EditorLemmas::FindingLemmas::with_verdict))]
+#[tactic(auto, using(crate::proofs::EditorLemmas::FindingLemmas::with_judgement))]
 fn push_judged(
     alloc: Global,
     finder: Finder<'_>,
@@ -173,23 +173,23 @@ fn push_judged(
         found.old.items found.new.items) }
 {
     let place = place_of(finder, spot.description);
-    let verdict = judge(alloc, place, levels, text)?;
-    push_verdict(alloc, spot, &verdict, found)
+    let judgement = judge(alloc, place, levels, text)?;
+    push_judgement(alloc, spot, &judgement, found)
 }
 
 // Adds what is wrong with a description.
 #[tactic(auto, using(crate::proofs::EditorLemmas::FindingLemmas::by_faults, crate::proofs::EditorLemmas::FindingLemmas::by_traps))]
-fn push_verdict(
+fn push_judgement(
     alloc: Global,
     spot: DocumentSpot<'_>,
-    verdict: &TextJudgement,
+    judgement: &TextJudgement,
     found: &mut Vec<Finding>,
 ) -> Result<(), AllocError>
     requires { IsCounted spot.text.now spot.counter }
-    ensures { OnOk result (Adds (AreBy spot.entry.text.now spot.entry.description.now verdict.now)
+    ensures { OnOk result (Adds (AreBy spot.entry.text.now spot.entry.description.now judgement.now)
         found.old.items found.new.items) }
 {
-    match verdict {
+    match judgement {
         TextJudgement::Accepted(_, warned) => push_warnings(alloc, spot, levels_of(*warned), found),
         TextJudgement::Faulty(faults) => push_faults(alloc, spot, faults, found),
         TextJudgement::Right(traps) => push_traps(alloc, spot, traps, found),

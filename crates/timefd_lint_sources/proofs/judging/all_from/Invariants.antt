@@ -1,5 +1,5 @@
 use Rattle.std.proofs.Common.{◌≡◌, ◌∷◌, flat_map}
-use Rattle.timefd_lint_sources.specs.Verdicts.{unless_item}
+use Rattle.timefd_lint_sources.specs.Judgements.{unless_item}
 use Rattle.timefd_lint_sources.proofs.judging.all_from.Given as goal
 
 abbrev pub invariant-loop-diagnostic : goal.invariant-loop-diagnostic

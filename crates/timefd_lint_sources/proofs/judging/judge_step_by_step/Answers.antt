@@ -1,5 +1,5 @@
 use Rattle.std.proofs.Common.{refl}
-use Rattle.timefd_lint_sources.proofs.VerdictLemmas.{are_faults}
+use Rattle.timefd_lint_sources.proofs.JudgementLemmas.{are_faults}
 use Rattle.timefd_lint_sources.proofs.judging.judge_step_by_step.Goals as goal
 
 pub returns-in_ok-faults-in-Some : goal.returns-in_ok-faults-in-Some

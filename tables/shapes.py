@@ -1,4 +1,4 @@
-"""What each form of a component means: templates for what stands in code and in definitions, where `{0}` is the row of the component.
+"""What each shape of a component means: templates for what stands in code and in definitions, where `{0}` is the row of the component.
 
 Code and definition have templates of their own: the prover compares what is made of them.
 """
@@ -6,8 +6,8 @@ import dataclasses
 
 
 @dataclasses.dataclass(frozen=True)
-class Form:
-    """How components of a form are read, what is known about their texts, and how they are written."""
+class Shape:
+    """How components of a shape are read, what is known about their texts, and how they are written."""
 
     # The rule by which it is read, in code and as it is defined, and which texts it may have.
     rule: str
@@ -28,7 +28,7 @@ class Form:
     given_defined: str = "is_some f.{0.shown}"
 
 
-NUMBER = Form(
+NUMBER = Shape(
     rule="number(Count::{0.part}, m.padding, {0.width}, {0.lowest}, {0.highest})",
     rule_defined="by.Number Count.{0.part} m.padding {0.width} {0.lowest} {0.highest}",
     text="IsNumber {0.lowest} {0.highest} m.padding {0.width}",
@@ -43,7 +43,7 @@ NUMBER = Form(
 def year(unit, range, digits, read, read_defined, greatest, width, **more):
     """Years of a range, or their centuries, which are the years by this unit."""
     words = {"EXTENDED": "IsExtended", "STANDARD": "IsStandard"}
-    return Form(
+    return Shape(
         rule=f"signed(Amount::{{0.part}}, m.sign_is_mandatory, {read})",
         rule_defined=f"by.Signed Amount.{{0.part}} m.sign_is_mandatory ({read_defined})",
         text=f"{words[range]} m.sign_is_mandatory ({digits.lower()} m.padding)",
@@ -60,7 +60,7 @@ def year(unit, range, digits, read, read_defined, greatest, width, **more):
 EXTENDED = {"outline": "extended m.padding m.sign_is_mandatory", "bound": "Bound.NoDigit"}
 STANDARD = {"outline": "signed m.padding m.sign_is_mandatory", "bound": "number_bound m.padding"}
 
-FORMS = {
+SHAPES = {
     "number": NUMBER,
     "last_two": dataclasses.replace(
         NUMBER,
@@ -82,7 +82,7 @@ FORMS = {
     "standard_century": year(
         100, "STANDARD", "CENTURY", "two(m.padding, 99)", "two m.padding 99", 9999, 2, **STANDARD,
     ),
-    "name": Form(
+    "name": Shape(
         rule="name(Count::{0.part}, NameList::{0.names}, m.case_sensitive, {0.first})",
         rule_defined="by.Name Count.{0.part} NameList.{0.names} m.case_sensitive {0.first}",
         text="IsOneOf {0.list}",
@@ -92,7 +92,7 @@ FORMS = {
         written="Ok(WrittenField::{0.variant}({0.code}))",
         written_defined="shows.{0.variant} {0.defined}",
     ),
-    "weekday": Form(
+    "weekday": Shape(
         rule="weekday({0.sunday}, m.one_indexed)",
         rule_defined="by.Weekday {0.sunday} m.one_indexed",
         text="IsWeekday m.one_indexed",
@@ -102,7 +102,7 @@ FORMS = {
         written="Ok(weekday(m.one_indexed, {0.code}))",
         written_defined="plain Padding.None 1 (from_one m.one_indexed {0.defined})",
     ),
-    "period": Form(
+    "period": Shape(
         rule="FieldRule::Period {{ names: periods(m.is_uppercase), is_case_sensitive: m.case_sensitive, }}",
         rule_defined="by.Period (period_names m.is_uppercase) m.case_sensitive",
         text="IsOneOf (periods m.is_uppercase)",
@@ -112,7 +112,7 @@ FORMS = {
         written="Ok(WrittenField::Period {{ is_uppercase: m.is_uppercase, is_afternoon: {0.code}, }})",
         written_defined="shows.Period m.is_uppercase {0.defined}",
     ),
-    "fraction": Form(
+    "fraction": Shape(
         rule="FieldRule::Fraction(m.digits)",
         rule_defined="by.Fraction m.digits",
         text="IsSubsecond m.digits",
@@ -124,7 +124,7 @@ FORMS = {
         adds="record s {{ subsecond = Some (more_digits s.subsecond (digits_shown m.digits)) }}",
         value="cut_where s.{0.shown} {0.defined}",
     ),
-    "offset_hours": Form(
+    "offset_hours": Shape(
         rule="signed(Amount::{0.part}, m.sign_is_mandatory, two(m.padding, {0.highest}))",
         rule_defined="by.Signed Amount.{0.part} m.sign_is_mandatory (two m.padding {0.highest})",
         text="IsSigned {0.highest} {0.highest} (λ n. m.sign_is_mandatory) (filled m.padding {0.width})",
@@ -135,7 +135,7 @@ FORMS = {
         value="if_shown s.{0.shown} (with_sign o.is_negative {0.defined})",
         **STANDARD,
     ),
-    "timestamp": Form(
+    "timestamp": Shape(
         rule="signed(Amount::{0.part}, m.sign_is_mandatory, stamp({0.most}, {0.nines}))",
         rule_defined="by.Signed Amount.{0.part} m.sign_is_mandatory (stamp {0.most} {0.nines_defined})",
         text="IsSigned {0.range[0]} {0.range[1]} (λ n. m.sign_is_mandatory) decimal",
@@ -145,7 +145,7 @@ FORMS = {
         written="instant_field(moment, {0.code}, m.sign_is_mandatory)",
         value="if_shown s.{0.shown} (with_sign (unix_time d t o).is_negative {0.defined})",
     ),
-    "ignored": Form(
+    "ignored": Shape(
         rule="FieldRule::Ignore(m.count.get())",
         rule_defined="by.Ignore m.count.value",
         text="λ text. text ≡ []",
@@ -154,7 +154,7 @@ FORMS = {
         begin="known",
         adds="s",
     ),
-    "end": Form(
+    "end": Shape(
         rule="FieldRule::End(m.trailing_input)",
         rule_defined="by.End m.trailing_input",
         text="λ text. text ≡ []",

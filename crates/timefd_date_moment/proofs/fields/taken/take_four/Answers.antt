@@ -2,7 +2,7 @@ use Rattle.std.proofs.Common.{arith}
 use Rattle.timefd_date_moment.specs.declared.fields.fields.Amount.{Amount}
 use Rattle.timefd_date_moment.specs.Fields.Short.{fields_with}
 use Rattle.timefd_date_moment.proofs.FieldsLemmas.QuickLemmas.{four_taken}
-use Rattle.timefd_date_moment.proofs.fields.short.take_four.Goals as goal
+use Rattle.timefd_date_moment.proofs.fields.taken.take_four.Goals as goal
 
 pub returns : goal.returns
 returns c =

@@ -17,12 +17,12 @@ use Rattle.timefd_lint_scan.specs.declared.known.Items.TheVariants.{Taken, Refus
 use Rattle.timefd_lint_warnings.specs.Found.{found_in}
 use Rattle.timefd_lint_sources.specs.declared.reported.Finder.{Finder}
 use Rattle.timefd_lint_sources.specs.declared.reported.Finder.TheVariants.{Rust, Keys}
-use Rattle.timefd_lint_sources.specs.declared.verdict.RefusedParts.{RefusedParts}
-use Rattle.timefd_lint_sources.specs.declared.verdict.RefusedParts.TheVariants.{Unwritable, Unknown}
-use Rattle.timefd_lint_sources.specs.declared.verdict.TextPlace.{TextPlace}
-use Rattle.timefd_lint_sources.specs.declared.verdict.TextPlace.TheVariants.{Own, Other}
-use Rattle.timefd_lint_sources.specs.declared.verdict.TextJudgement.{TextJudgement}
-use Rattle.timefd_lint_sources.specs.declared.verdict.TextJudgement.TheVariants.{Accepted, Faulty, Right, Refused}
+use Rattle.timefd_lint_sources.specs.declared.judgement.RefusedParts.{RefusedParts}
+use Rattle.timefd_lint_sources.specs.declared.judgement.RefusedParts.TheVariants.{Unwritable, Unknown}
+use Rattle.timefd_lint_sources.specs.declared.judgement.TextPlace.{TextPlace}
+use Rattle.timefd_lint_sources.specs.declared.judgement.TextPlace.TheVariants.{Own, Other}
+use Rattle.timefd_lint_sources.specs.declared.judgement.TextJudgement.{TextJudgement}
+use Rattle.timefd_lint_sources.specs.declared.judgement.TextJudgement.TheVariants.{Accepted, Faulty, Right, Refused}
 use Rattle.timefd_lint_sources.specs.Items.{is_of_item}
 use Rattle.timefd_lint_sources.specs.Judged.{language_in, other_of}
 use Rattle.timefd_lint_sources.specs.Search.{IsRefusedFirst, IsRight}
@@ -73,13 +73,13 @@ AreTrapsIf true dialect text found = AreTraps dialect text found
 
 -- A text of a language of `time` spells a list or has a fault. A format of another language or library is right where it
 -- stands, or else it has a first part that is refused there.
-abbrev pub IsVerdict : TextPlace → Option Levels → Text → TextJudgement → Type 0
-IsVerdict (Own language items) levels text (Accepted by found) = (by ≡ language) × IsAcceptedBy language levels text found
-IsVerdict (Own language items) levels text (Faulty faults) = AreFaultsOf language items text faults.items
-IsVerdict (Own language items) levels text (Right traps) = ⊥
-IsVerdict (Own language items) levels text (Refused part) = ⊥
-IsVerdict (Other dialect parts) levels text (Accepted by found) = ⊥
-IsVerdict (Other dialect parts) levels text (Faulty faults) = ⊥
-IsVerdict (Other dialect parts) levels text (Right traps) =
+abbrev pub IsJudgement : TextPlace → Option Levels → Text → TextJudgement → Type 0
+IsJudgement (Own language items) levels text (Accepted by found) = (by ≡ language) × IsAcceptedBy language levels text found
+IsJudgement (Own language items) levels text (Faulty faults) = AreFaultsOf language items text faults.items
+IsJudgement (Own language items) levels text (Right traps) = ⊥
+IsJudgement (Own language items) levels text (Refused part) = ⊥
+IsJudgement (Other dialect parts) levels text (Accepted by found) = ⊥
+IsJudgement (Other dialect parts) levels text (Faulty faults) = ⊥
+IsJudgement (Other dialect parts) levels text (Right traps) =
     IsRight parts dialect text × AreTrapsIf (is_some levels) dialect text traps.items
-IsVerdict (Other dialect parts) levels text (Refused part) = IsRefusedFirst parts dialect text part
+IsJudgement (Other dialect parts) levels text (Refused part) = IsRefusedFirst parts dialect text part

@@ -1,7 +1,7 @@
 //! Where a text stands, and what is wrong with it there.
 
 ghost use Rattle.std.specs.Prelude.{◌≡◌};
-ghost use Rattle.timefd_lint_sources.specs.Verdicts as spec;
+ghost use Rattle.timefd_lint_sources.specs.Judgements as spec;
 
 use crate::language::{language_of, other_of};
 use crate::reported::Finder;

@@ -17,19 +17,19 @@ use Rattle.timefd_lint_diagnosis.specs.Further.{AreFurther, most_further, withou
 use Rattle.timefd_lint_scan.specs.declared.description.SourceDescription.{SourceDescription}
 use Rattle.timefd_lint_scan.specs.declared.known.Items.{Items}
 use Rattle.timefd_lint_sources.specs.declared.reported.SourceText.{SourceText}
-use Rattle.timefd_lint_sources.specs.declared.verdict.RefusedParts.{RefusedParts}
-use Rattle.timefd_lint_sources.specs.declared.verdict.TextPlace.{TextPlace}
-use Rattle.timefd_lint_sources.specs.declared.verdict.TextPlace.TheVariants.{Own, Other}
-use Rattle.timefd_lint_sources.specs.declared.verdict.TextJudgement.{TextJudgement}
-use Rattle.timefd_lint_sources.specs.declared.verdict.TextJudgement.TheVariants.{Faulty, Right, Refused}
+use Rattle.timefd_lint_sources.specs.declared.judgement.RefusedParts.{RefusedParts}
+use Rattle.timefd_lint_sources.specs.declared.judgement.TextPlace.{TextPlace}
+use Rattle.timefd_lint_sources.specs.declared.judgement.TextPlace.TheVariants.{Own, Other}
+use Rattle.timefd_lint_sources.specs.declared.judgement.TextJudgement.{TextJudgement}
+use Rattle.timefd_lint_sources.specs.declared.judgement.TextJudgement.TheVariants.{Faulty, Right, Refused}
 use Rattle.timefd_lint_sources.specs.Allowed.{IsLeftOf, IsRefusalLeft, unless_allowed, unless_trap}
 use Rattle.timefd_lint_sources.specs.Search.{IsSearched}
-use Rattle.timefd_lint_sources.specs.Verdicts.{AreTrapsIf, IsVerdict, unless_item}
+use Rattle.timefd_lint_sources.specs.Judgements.{AreTrapsIf, IsJudgement, unless_item}
 use Rattle.timefd_parse.specs.Language.{FaultIn}
 
 pub in_place : {E : Type 0} (place given : TextPlace) (levels : Option Levels) (text : Text) (done : Result TextJudgement E)
-    → place ≡ given → IfOk done (IsVerdict given levels text) → IfOk done (IsVerdict place levels text)
-in_place place given levels text done is judged = subst (λ p. IfOk done (IsVerdict p levels text)) (sym is) judged
+    → place ≡ given → IfOk done (IsJudgement given levels text) → IfOk done (IsJudgement place levels text)
+in_place place given levels text done is judged = subst (λ p. IfOk done (IsJudgement p levels text)) (sym is) judged
 
 -- The faults of a text, which was diagnosed.
 pub are_faults : (language : Language) (items : Items) (levels : Option Levels) (text : Text) (found : Option Diagnostic)
@@ -38,7 +38,7 @@ pub are_faults : (language : Language) (items : Items) (levels : Option Levels) 
     → IfSome found (IsDiagnosis language text)
     → ((further : List Diagnostic) × AreFurther most_further language (without language text (fault_of g.fault)) further
     × (faults.items ≡ g ∷ flat_map (unless_item items) further))
-    → IsVerdict (Own language items) levels text (Faulty faults)
+    → IsJudgement (Own language items) levels text (Faulty faults)
 are_faults language items levels text found g faults is faulty diagnosed (further, others, all) = (
   g,
   further,
@@ -57,7 +57,7 @@ are_faults language items levels text found g faults is faulty diagnosed (furthe
 pub is_right : (dialect : Dialect) (parts : RefusedParts) (levels : Option Levels) (text : Text)
     (found : Option RefusedPart) (is_asked : Bool) (traps : Vec Found Global) → found ≡ None
     → IsSearched parts dialect text found → is_asked ≡ is_some levels → AreTrapsIf is_asked dialect text traps.items
-    → IsVerdict (Other dialect parts) levels text (Right traps)
+    → IsJudgement (Other dialect parts) levels text (Right traps)
 is_right dialect parts levels text found is_asked traps none searched asked are = (
   subst (IsSearched parts dialect text) none searched,
   subst (λ b. AreTrapsIf b dialect text traps.items) asked are,
@@ -65,7 +65,7 @@ is_right dialect parts levels text found is_asked traps none searched asked are 
 
 pub is_refused : (dialect : Dialect) (parts : RefusedParts) (levels : Option Levels) (text : Text)
     (found : Option RefusedPart) (part : RefusedPart) → found ≡ Some part → IsSearched parts dialect text found
-    → IsVerdict (Other dialect parts) levels text (Refused part)
+    → IsJudgement (Other dialect parts) levels text (Refused part)
 is_refused dialect parts levels text found part is searched = subst (IsSearched parts dialect text) is searched
 
 -- What comments leave.

@@ -2,7 +2,7 @@ use Rattle.std.proofs.Common.{sym}
 use Rattle.timefd_date_moment.specs.declared.fields.fields.Count.{Count}
 use Rattle.timefd_date_moment.specs.Fields.Short.{fields_with}
 use Rattle.timefd_date_moment.proofs.FieldsLemmas.QuickLemmas.{name_taken}
-use Rattle.timefd_date_moment.proofs.fields.short.take_month.Goals as goal
+use Rattle.timefd_date_moment.proofs.fields.taken.take_month_name.Goals as goal
 
 pub returns : goal.returns
 returns c =
