@@ -18,10 +18,10 @@ def tokens(lines):
 
 
 def pieces(lines, begins):
-    """The lines in groups, each from a line that begins so up to the next one."""
+    """The lines in groups, each from a line that begins so, and no deeper, up to the next one."""
     found = []
     for line in lines:
-        if line.startswith(begins) or not found:
+        if line.startswith(begins) and line[len(begins):][:1] != " " or not found:
             found.append([])
         found[-1].append(line)
     return found
