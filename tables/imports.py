@@ -57,6 +57,7 @@ TABLES = [
         "date_format/specs/Fields", "date_format/proofs/TextLemmas", "date_format/proofs/Utf8Lemmas",
     )),
     imported("lang_component/proofs/Greatest", [it for it in TEXTS if it.shows != "Nothing"]),
+    imported("format/specs/Completing/Given", [it for it in TEXTS if it.shows != "Instant"]),
     imported("date_format/specs/Sentences", NAMED + DEPRECATED),
     imported("lint_explain/proofs/SampleLemmas", ENDS + DEPRECATED),
     imported("language/specs/Names", [it for it in NAMES if it.variant in {of.variant for of in ALL}]),

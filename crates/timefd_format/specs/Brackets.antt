@@ -12,7 +12,7 @@ use Rattle.timefd_date_moment.specs.declared.moment.Moment.{Moment}
 use Rattle.timefd_date_moment.specs.declared.offset.UtcOffset.{UtcOffset}
 use Rattle.timefd_date_moment.specs.declared.unix_time.UnixTime.{UnixTime}
 use Rattle.timefd_date_moment.specs.Signed.{signed}
-use Rattle.timefd_format.specs.declared.conflict.OffsetConflict.{OffsetConflict}
+use Rattle.timefd_format.specs.declared.moment.OffsetConflict.{OffsetConflict}
 use Rattle.timefd_format.specs.declared.moment.MomentError.{MomentError}
 use Rattle.timefd_format.specs.declared.moment.MomentError.TheVariants as fails
 use Rattle.timefd_format.specs.Zones.{instant_of}

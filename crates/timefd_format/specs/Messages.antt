@@ -11,7 +11,7 @@ use Rattle.timefd_date_moment.specs.Reading.Sentences.{sentence}
 use Rattle.timefd_description.specs.Sentences.{unread_sentence}
 use Rattle.timefd_format.specs.declared.asked.CommandLineError.{CommandLineError}
 use Rattle.timefd_format.specs.declared.asked.CommandLineError.TheVariants as errors
-use Rattle.timefd_format.specs.declared.conflict.OffsetConflict.{OffsetConflict}
+use Rattle.timefd_format.specs.declared.moment.OffsetConflict.{OffsetConflict}
 use Rattle.timefd_format.specs.declared.header.HeaderError.{HeaderError}
 use Rattle.timefd_format.specs.declared.header.HeaderError.TheVariants as header
 use Rattle.timefd_format.specs.declared.moment.MomentError.{MomentError}

@@ -5,9 +5,8 @@ ghost use Rattle.std.specs.List.{ends_with, position_from};
 ghost use Rattle.timefd_format.specs.Brackets as spec;
 ghost use Rattle.timefd_format.specs.Brackets.{HasOffsetOf, IsCompared, IsInAgreement};
 
-use crate::conflict::OffsetConflict;
 use crate::from_jiff::{Error, offset_in_zone};
-use crate::moment::MomentError;
+use crate::moment::{MomentError, OffsetConflict};
 use crate::zone::instant_of;
 use jiff_tz::{TimeZone, TimeZoneDatabase};
 use timefd_date_moment::{Moment, UnixTime, UtcOffset};

@@ -9,13 +9,11 @@
 mod batch;
 mod day;
 mod line;
-mod line_end;
 mod moment;
 pub mod plain;
 mod plain_cell;
 mod record;
 mod record_batch;
-mod record_end;
 mod spelled;
 pub mod take;
 pub mod take_records;

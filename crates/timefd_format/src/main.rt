@@ -10,7 +10,6 @@ mod bracket;
 mod clock;
 mod column;
 mod completing;
-mod conflict;
 mod converted;
 mod description;
 mod end;

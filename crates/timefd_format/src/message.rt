@@ -4,10 +4,9 @@ ghost use Rattle.std.specs.Prelude.{◌≡◌, IfOk, string_bytes};
 ghost use Rattle.timefd_format.specs.Messages as spec;
 
 use crate::absent::absent_sentence;
-use crate::conflict::OffsetConflict;
 use crate::expected::expected_in;
 use crate::header::HeaderError;
-use crate::moment::MomentError;
+use crate::moment::{MomentError, OffsetConflict};
 use crate::source::{MomentSource, source_leaves};
 use std::alloc::{AllocError, Global};
 use timefd_date_format::Unshown;

@@ -1,17 +1,26 @@
-//! The moments that words name.
+//! The moments that words name, and why a word names none.
 
 ghost use Rattle.timefd_format.specs.Moments.{IsChecked, IsNamed, IsWritten};
 
 use crate::absent::AbsentDay;
 use crate::bracket::{closes_once, ends_in_bracket, in_agreement};
-use crate::conflict::OffsetConflict;
 use crate::from_jiff::{Annotated, Annotation, Error, read_annotated};
 use crate::names::GivenNames;
 use crate::seconds::{after_at, moment_at};
 use jiff_tz::TimeZoneDatabase;
-use timefd_date_moment::Moment;
 use timefd_date_moment::fields::ReadError;
 use timefd_date_moment::reading::ValueError;
+use timefd_date_moment::{Moment, UtcOffset};
+
+/// The offset that is written, and the different one that the time zone in brackets has at that
+/// moment.
+#[derive(Clone, Copy)]
+pub struct OffsetConflict {
+    /// The offset before the brackets.
+    pub written: UtcOffset,
+    /// The offset of the time zone at that moment.
+    pub zone: UtcOffset,
+}
 
 /// Why a word names no moment.
 #[derive(Clone, Copy)]

@@ -5,7 +5,6 @@
 
 mod all_codes;
 mod arguments;
-mod color;
 mod config;
 mod drawn;
 mod error_code;
@@ -52,9 +51,8 @@ mod unusable;
 mod usage;
 mod value_notes;
 
-use color::is_colored;
 use line::LintError;
-use output::{errors, standard_error, standard_output};
+use output::{errors, is_colored, standard_error, standard_output};
 use page::{Subject, explained_in, page_on, unexplained_in};
 use parts::{RunPart, file_count, have_lines, parts_of, warn};
 use projects::{Named, below_root, projects_of};

@@ -1,4 +1,4 @@
-//! The standard streams, and who reads them: the only way of the program's texts to people.
+//! The standard streams, who reads them, and whether drawings are coloured: the only way of the program's texts to people.
 
 ghost use Rattle.std.specs.Prelude.{◌≡◌, IfOk, IsFalse, None, OnOk, false};
 ghost use Rattle.std.specs.Io.{WritesAtMost};
@@ -9,8 +9,9 @@ ghost use Rattle.timefd_lint.specs.Outputs as spec;
 
 use std::alloc::{AllocError, Global};
 use std::io::{IsTerminal, Result, Stderr, Write};
-use timefd_bin_streams::{Sink, ToWriter};
+use timefd_bin_streams::{Sink, ToWriter, Variables, shows_colors};
 use timefd_lint_drawing::people::show;
+use timefd_lint_options::Color;
 
 /// Who reads a stream.
 #[derive(Clone, Copy)]
@@ -35,6 +36,18 @@ impl Audience {
         } else {
             Audience::WithoutColor
         }
+    }
+}
+
+/// Whether drawings on the standard output are coloured. By `auto` they are if it is a terminal, and the environment lets
+/// that show colours.
+pub fn is_colored<V: Variables>(variables: &V, is_terminal: bool, color: Color) -> bool
+    ensures { spec.IsColored (V.have variables.now) is_terminal color result }
+{
+    match color {
+        Color::Always => true,
+        Color::Never => false,
+        Color::Auto => is_terminal && shows_colors(variables),
     }
 }
 

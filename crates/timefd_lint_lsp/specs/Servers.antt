@@ -23,9 +23,9 @@ use Rattle.timefd_lint_lsp.specs.declared.reply.RequestRefusal.TheVariants as re
 use Rattle.timefd_lint_lsp.specs.declared.reply.ServerMessage.TheVariants as replies
 use Rattle.timefd_lint_lsp.specs.declared.editor.action.Action.{Action}
 use Rattle.timefd_lint_lsp.specs.declared.editor.action.WantedActions.{WantedActions}
-use Rattle.timefd_lint_lsp.specs.declared.editor.completed.Completion.{Completion}
+use Rattle.timefd_lint_lsp.specs.declared.editor.completing.Completion.{Completion}
 use Rattle.timefd_lint_lsp.specs.declared.editor.finding.Finding.{Finding}
-use Rattle.timefd_lint_lsp.specs.declared.editor.hovered.Hover.{Hover}
+use Rattle.timefd_lint_lsp.specs.declared.editor.hovering.Hover.{Hover}
 use Rattle.timefd_lint_lsp.specs.declared.editor.position.DocumentPosition.{DocumentPosition}
 use Rattle.timefd_lint_lsp.specs.declared.editor.position.DocumentRange.{DocumentRange}
 use Rattle.timefd_lint_lsp.specs.Editor.Actions.{AreActionsOf}

@@ -9,11 +9,11 @@ use Rattle.timefd_lint_lsp.specs.declared.editor.action.Action.{Action}
 use Rattle.timefd_lint_lsp.specs.declared.editor.action.ActionKind.{ActionKind}
 use Rattle.timefd_lint_lsp.specs.declared.editor.action.ActionKind.TheVariants.{QuickFix, Guess, Rewrite, FixAll}
 use Rattle.timefd_lint_lsp.specs.declared.editor.action.Edit.{Edit}
-use Rattle.timefd_lint_lsp.specs.declared.editor.completed.Completion.{Completion}
+use Rattle.timefd_lint_lsp.specs.declared.editor.completing.Completion.{Completion}
 use Rattle.timefd_lint_lsp.specs.declared.editor.finding.Finding.{Finding}
 use Rattle.timefd_lint_lsp.specs.declared.editor.finding.Severity.{Severity}
 use Rattle.timefd_lint_lsp.specs.declared.editor.finding.Severity.TheVariants.{Error, Warning}
-use Rattle.timefd_lint_lsp.specs.declared.editor.hovered.Hover.{Hover}
+use Rattle.timefd_lint_lsp.specs.declared.editor.hovering.Hover.{Hover}
 use Rattle.timefd_lint_lsp.specs.declared.editor.position.DocumentPosition.{DocumentPosition}
 use Rattle.timefd_lint_lsp.specs.declared.editor.position.DocumentRange.{DocumentRange}
 

@@ -24,7 +24,6 @@ mod firsts;
 mod flow;
 mod following;
 mod frames;
-mod furthest;
 mod gathered;
 mod import;
 mod kept;

@@ -5,7 +5,6 @@
 mod answer;
 mod aside;
 mod change;
-mod counts;
 mod found;
 mod item;
 mod outcome;
@@ -16,9 +15,8 @@ mod values;
 
 pub use answer::{Answer, NewParts, answer_to};
 pub use change::{Change, layout_of, new_digit};
-pub use counts::{count_refused, count_rewritten};
 pub use found::rewrite_found;
-pub use outcome::Outcome;
+pub use outcome::{Outcome, count_refused, count_rewritten};
 pub use source::{NewSource, rewrite_all, rewrite_source};
 pub use text::text_by;
 pub use value::value_change;

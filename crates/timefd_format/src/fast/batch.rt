@@ -1,14 +1,14 @@
-//! A batch of lines, from a text into a room.
+//! A batch of lines, from a text into a room, and where a line ends.
 
-ghost use Rattle.std.specs.Prelude.{◌≡◌};
+ghost use Rattle.std.specs.Prelude.{◌≡◌, ◌≤◌, IfSome, length, take};
 ghost use Rattle.timefd_format.specs.Batches as spec;
-ghost use Rattle.timefd_format.specs.Batches.{IsBatch, TriesToGrow};
+ghost use Rattle.timefd_format.specs.Batches.{IsBatch, IsWholeLine, TriesToGrow};
 ghost use Rattle.timefd_format.specs.ReadBack.{IsMadeOf};
 ghost use Rattle.timefd_format.specs.Sources.{AreLeavesIn};
 
 use crate::fast::line::append_line;
-use crate::fast::line_end::first_line_len;
 use crate::source::MomentSource;
+use memchr::memchr;
 use timefd_lang_node_list::Leaf;
 use timefd_lint_rewrite::without_newline;
 use timefd_parse::BorrowedOutput;
@@ -35,6 +35,17 @@ impl Batch {
             written: 0,
         }
     }
+}
+
+/// How many bytes the first line has, with its newline. `None` if there is no newline.
+#[inline(always)]
+#[tactic(auto, using(crate::proofs::BatchLemmas::up_to_newline, crate::proofs::BatchLemmas::newline_within))]
+pub fn first_line_len(text: &[u8]) -> Option<usize>
+    ensures within { IfSome result (λ len. len ≤ length text.now) }
+    ensures line { IfSome result (λ len. IsWholeLine (take len text.now)) }
+{
+    let newline = memchr(b'\n', text)?;
+    Some(newline + 1)
 }
 
 /// Reads lines from the front of a text, and writes their moments to the front of the room, a line each: as

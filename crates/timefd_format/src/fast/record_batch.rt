@@ -1,15 +1,31 @@
-//! A batch of records, from a text into a room.
+//! A batch of records, from a text into a room, and where a record without quotes ends.
 
+ghost use Rattle.std.specs.Prelude.{◌≤◌, IfSome, length, take};
 ghost use Rattle.timefd_format.specs.ReadBack.{IsMadeOf};
-ghost use Rattle.timefd_format.specs.RecordBatches.{IsRecordBatch, TriesToGrowByRecord};
+ghost use Rattle.timefd_format.specs.RecordBatches.{IsPlainRecord, IsRecordBatch, TriesToGrowByRecord};
 ghost use Rattle.timefd_format.specs.Sources.{AreLeavesIn};
 
 use crate::fast::batch::Batch;
 use crate::fast::record::append_record;
-use crate::fast::record_end::plain_record_len;
 use crate::source::MomentSource;
+use memchr::memchr2;
 use timefd_lang_node_list::Leaf;
 use timefd_parse::BorrowedOutput;
+
+/// How many bytes the first record has, with its newline, if no quote is in it. `None` says nothing about the
+/// record.
+#[inline(always)]
+#[tactic(auto, using(crate::proofs::PlainRecordLemmas::up_to_newline, crate::proofs::PlainRecordLemmas::newline_within))]
+pub fn plain_record_len(text: &[u8]) -> Option<usize>
+    ensures within { IfSome result (λ len. len ≤ length text.now) }
+    ensures record { IfSome result (λ len. IsPlainRecord (take len text.now)) }
+{
+    let at = memchr2(b'\n', b'"', text)?;
+    if text[at] != b'\n' {
+        return None;
+    }
+    Some(at + 1)
+}
 
 /// Reads records without quotes from the front of a text, and writes them to the front of the room, each with
 /// the text of its moment in place of the field after `count` others: as many as can be read and written

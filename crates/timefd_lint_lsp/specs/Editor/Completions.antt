@@ -11,7 +11,7 @@ use Rattle.timefd_language.specs.declared.description_version.Language.TheVarian
 use Rattle.timefd_lint_sources.specs.declared.reported.SourceText.{SourceText}
 use Rattle.timefd_lint_sources.specs.Judged.{language_in, text_of}
 use Rattle.timefd_lint_sources.specs.Reported.{AllFound, AreAllOf}
-use Rattle.timefd_lint_lsp.specs.declared.editor.completed.Completion.{Completion}
+use Rattle.timefd_lint_lsp.specs.declared.editor.completing.Completion.{Completion}
 use Rattle.timefd_lint_lsp.specs.Editor.Cursors.{bytes_before, word_start}
 use Rattle.timefd_lint_lsp.specs.Editor.Offered.{Around, offered}
 use Rattle.timefd_lint_lsp.specs.Editor.OpenSlots.{IsOpenSlot}

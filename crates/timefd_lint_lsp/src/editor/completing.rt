@@ -5,16 +5,27 @@ ghost use Rattle.timefd_lint_lsp.specs.Editor.Completions.{IsCompletedAt, IsComp
 ghost use Rattle.timefd_lint_lsp.specs.Editor.Completions as spec;
 ghost use Rattle.timefd_lint_lsp.specs.Editor.Offered.{around};
 
-use crate::editor::completed::Completion;
 use crate::editor::counter::{none_counted, range_from};
 use crate::editor::cursor::{bytes_before, last_word};
 use crate::editor::offered::{Begun, offered};
-use crate::editor::open_slot::open_slot;
+use crate::editor::position::DocumentRange;
+use crate::editor::slot::open_slot;
 use std::alloc::{AllocError, Global};
 use std::str;
+use timefd_lint_diagnosis::Slot;
 use timefd_lint_scan::{PlacedToken, SourceDescription, index_in_source};
 use timefd_lint_sources::{SourceText, descriptions_in, language_of};
 use timefd_parse::{DescriptionVersion, Language};
+
+/// What may be written for the word that is begun at a cursor.
+#[derive(Drop)]
+pub struct Completion {
+    /// The word that is begun, up to the cursor. Each of the words replaces it.
+    pub range: DocumentRange,
+    /// Whether they are names, keys or values.
+    pub slot: Slot,
+    pub words: Vec<&'static str>,
+}
 
 /// The words that may be written at a cursor, which is at this byte index: names, keys or values, in a bracket of a
 /// description of version 1, 2 or 3. `None` if no word is known that belongs there. An `Err` says that memory ran

@@ -6,7 +6,7 @@ ghost use Rattle.timefd_lint_lsp.specs.Editor.FaultHovers as spec;
 
 use crate::editor::counter::{none_counted, range_from};
 use crate::editor::faults::words_on;
-use crate::editor::hovered::Hover;
+use crate::editor::hovering::Hover;
 use std::alloc::{AllocError, Global};
 use timefd_lint_diagnosis::Diagnostic;
 use timefd_lint_scan::{SourceDescription, index_in_source};

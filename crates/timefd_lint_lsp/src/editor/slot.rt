@@ -1,17 +1,34 @@
-//! What a word after a text should be: a key or a value.
+//! What a word after a text should be: a name, a key or a value.
 
 ghost use Rattle.std.specs.Prelude.{◌≡◌, IfSome, MatchOption};
 ghost use Rattle.timefd_language.specs.Bytes.{StopsBefore, ZeroOrMore, is_version_three, is_word_byte};
 ghost use Rattle.timefd_lang_fault.specs.declared.rule.Slot.{Slot};
 ghost use Rattle.timefd_language.specs.Slots as spec;
 ghost use Rattle.timefd_language.specs.Slots.{IsSlotAt, IsSlotAfter};
+ghost use Rattle.timefd_lint_lsp.specs.Editor.OpenSlots.{IsOpenSlot};
 ghost use Rattle.timefd_lint_lsp.specs.Editor.SlotSearches.{is_inside, IsAfterAll, IsLastBracket, IsNamedHead, NamesHead};
 
+use crate::editor::scan::scanned;
 use timefd_lang_fault::Slot;
 use timefd_language::key::key_of;
 use timefd_language::name::name_of;
 use timefd_language::text::{Class, cut};
 use timefd_parse::{DescriptionVersion, bracket_name, first_modifier};
+
+/// What a word after this text would be: a name, a key or a value. `None` if the text doesn't end within the head of
+/// a component's bracket, or if the name or the key before the word isn't known.
+pub fn open_slot(version: DescriptionVersion, text: &str) -> Option<Slot>
+    ensures { IsOpenSlot version text.now result }
+{
+    let scan = scanned(version, text.as_bytes());
+    if !scan.is_in_component() {
+        return None;
+    }
+    if scan.is_blank {
+        return Some(Slot::Name);
+    }
+    slot_after(version, text, "a")
+}
 
 /// What a modifier's word after this text should have been: a key, or the value of one. If the word
 /// is empty, a colon is there, and is taken for the colon of a key without a value. `None` if it

@@ -1,7 +1,8 @@
-//! The outcome of fixing or converting a description.
+//! The outcome of fixing or converting a description, and how many there are of a kind.
 
-ghost use Rattle.std.specs.Prelude.{◌≡◌};
+ghost use Rattle.std.specs.Prelude.{◌≡◌, count_by};
 ghost use Rattle.timefd_lint_sources.specs.Rewriting.Written as spec;
+ghost use Rattle.timefd_lint_sources.specs.Rewriting.Written.{is_refusing, is_rewriting};
 
 /// The outcome of a description.
 #[derive(Clone, Copy, Debug, PartialEq, Eq)]
@@ -58,4 +59,18 @@ impl Outcome {
             | Outcome::ByHand => false,
         }
     }
+}
+
+/// The number of descriptions that are rewritten.
+pub fn count_rewritten(outcomes: &[Outcome]) -> usize
+    ensures { result ≡ count_by is_rewriting outcomes.now }
+{
+    outcomes.iter().filter(|it| it.is_rewriting()).count()
+}
+
+/// The number of descriptions that still have a fault, or whose new text no literal can hold.
+pub fn count_refused(outcomes: &[Outcome]) -> usize
+    ensures { result ≡ count_by is_refusing outcomes.now }
+{
+    outcomes.iter().filter(|it| it.is_refusing()).count()
 }
