@@ -4,12 +4,14 @@ import pathlib
 import sys
 import tomllib
 
+from rule import RULES
+
 HERE = pathlib.Path(__file__).resolve().parent
 
 
 @dataclasses.dataclass(frozen=True)
 class Fault:
-    """A row. `bound` is `header` as a sentence where the row has none, and `rules` has the variant itself."""
+    """A row. `bound` is `header` as a sentence where the row has none."""
 
     variant: str
     number: int
@@ -18,7 +20,6 @@ class Fault:
     header: str
     summary: str
     explanation: str
-    rules: tuple
     bound: str
     advice: str = ""
     advice_by: str = ""
@@ -34,7 +35,7 @@ class Fault:
 def row(variant, cells):
     """A row, if it has all its cells and no others."""
     header = cells.get("header", " ")
-    cells = {"rules": [variant], "bound": f"{header[0].upper()}{header[1:]}.", **cells}
+    cells = {"bound": f"{header[0].upper()}{header[1:]}.", **cells}
     fields = {field.name: field.default for field in dataclasses.fields(Fault) if field.name != "variant"}
     for name, default in fields.items():
         if default is dataclasses.MISSING and name not in cells:
@@ -52,10 +53,10 @@ def check():
         sys.exit(f"tables/faults.toml: the numbers aren't those from 1 to {len(FAULTS)}, in this order")
     if len({it.name for it in FAULTS}) < len(FAULTS):
         sys.exit("tables/faults.toml: two faults have one name")
+    if apart := {it.code for it in RULES} ^ {it.variant for it in FAULTS}:
+        sys.exit(f"tables/rules.toml: of {', '.join(sorted(apart))} there has to be a rule, and a row in faults.toml")
 
 
 FAULTS = [row(*it) for it in tomllib.loads((HERE / "faults.toml").read_text()).items()]
-# The rules in the order of their enum, each as a pattern.
-RULES = [rule for it in FAULTS for rule in it.rules]
 
 check()

@@ -1,6 +1,6 @@
 """The tables that repeat what a fault is: in code, specifications, proofs, the header for C and bindings."""
 from dialect_tables import codes, quoted
-from fault import FAULTS, RULES
+from fault import FAULTS
 from kept import Kept
 from layout import WIDTH, arm_of_many, equation, filled
 from place import Alternatives, Between, Line, Part, Table, each
@@ -13,35 +13,19 @@ LIST_WIDTH, LONGEST = 96, 160
 # of its own.
 MARKED = ("MissingSpace", "UnescapedBracket", "InvalidEscape")
 OF_STRFTIME = ("InvalidEscape", "UnsupportedFlag", "UnsupportedLetter")
-# Rules that are told apart: those whose help isn't the advice on their code, and those of which it is known what should have been there.
-WITH_HELP = ("UnknownName", "UnknownLetter", "UnknownKey", "UnknownValue", "InvalidModifier", "RefusedModifier")
-WITH_SLOT = ("UnknownName", "UnknownKey", "UnknownValue")
 
 
-def variant(rule):
-    return rule.partition("(")[0]
-
-
-def others(rows, named, before=()):
-    """The rows that aren't among these, and first those that come before others."""
-    rest = [it for it in rows if variant(getattr(it, "variant", it)) not in named]
-    return sorted(rest, key=lambda it: variant(getattr(it, "variant", it)) not in before)
+def others(*named):
+    """The faults that aren't among these."""
+    return [it for it in FAULTS if it.variant not in named]
 
 
 def patterns(faults):
     return [f"Code::{it.variant}" for it in faults]
 
 
-def rules(listed):
-    return [f"Rule::{it}" for it in listed]
-
-
 def variants():
     return [line for it in FAULTS for line in (f"    /// {it.about}", f"    {it.variant},")]
-
-
-def coded():
-    return [line for it in FAULTS for line in arm_of_many(12, rules(it.rules), f"Code::{it.variant}")]
 
 
 def listed():
@@ -100,7 +84,7 @@ def of_items():
 
 def without_advice():
     """The faults of strftime to which its letters are the answer, one that its letter is unknown first."""
-    first, *more = patterns(others(FAULTS, OF_STRFTIME, before=("UnknownName",)))
+    first, *more = patterns(sorted(others(*OF_STRFTIME), key=lambda it: it.variant != "UnknownName"))
     return [f"        {first}", *(f"        | {it}" for it in more[:-1]), f"        | {more[-1]} => {{"]
 
 
@@ -146,23 +130,14 @@ HEADER, BOUND = "examples/timefd.h", "bindings/rust/src/fault.rs"
 
 IN_CODE = [
     Table(CODE, Between(("pub enum Code {",), "}"), variants),
-    Table(CODE, Between(("pub fn of(", "match rule {"), "        }"), coded),
     each(CODE, Between(("pub fn all(", "&["), "        ]"), FAULTS, "            Code::{0.variant},"),
     each(CODE, Between(("pub fn name(", "match self {"), "        }"), FAULTS, '            Code::{0.variant} => "{0.name}",'),
-    Table(
-        "crates/timefd_lang_fault/src/rule.rt", Alternatives("pub fn wanted(", "=> None,"),
-        lambda: arm_of_many(12, rules(others(RULES, WITH_SLOT, before=("UnknownLetter", "InvalidModifier"))), "None"),
-    ),
-    Table(
-        f"{DIAGNOSIS}/src/help.rt", Alternatives("fn version_help(", "Code::of(fault.rule)))),"),
-        lambda: arm_of_many(8, rules(others(RULES, WITH_HELP)), "Ok(Help::Advice(advice(version, Code::of(fault.rule))))"),
-    ),
     texts(f"{DIAGNOSIS}/src/cure.rt", "pub fn advice", advice),
     Table(f"{DIAGNOSIS}/src/cure.rt", Alternatives('"names of time zones aren', "=> {"), without_advice),
     Table(f"{DIAGNOSIS}/src/further.rt", Between(("fn version_mark(", "match code {"), "    }"), left_out),
     Table(
         "crates/timefd_lint_rewrite/src/cure.rt", Alternatives("fn mark_before(", "=> None,"),
-        lambda: arm_of_many(8, patterns(others(FAULTS, MARKED)), "None"),
+        lambda: arm_of_many(8, patterns(others(*MARKED)), "None"),
     ),
     Table("crates/timefd_lint_sources/src/opening.rt", Between(("pub fn is_of_item(", "match code {"), "    }"), of_items),
     each(
@@ -186,7 +161,7 @@ DEFINED = [
     ),
     each(
         "crates/timefd_lint_rewrite/specs/Cures.antt", Between(("abbrev pub mark_before :", "mark_before language fixes InvalidEscape"), ""),
-        others(FAULTS, MARKED), "mark_before language fixes {0.variant} = None",
+        others(*MARKED), "mark_before language fixes {0.variant} = None",
     ),
     cases(
         "crates/timefd_lint_sources/specs/Items.antt", "abbrev pub is_of_item :", FAULTS, "is_of_item {0.variant}",

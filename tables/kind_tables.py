@@ -1,61 +1,10 @@
 """The tables that repeat what is reported of a fault, from `kinds.toml`: the enum of `time`, its sentences, and the kinds in definitions."""
-import dataclasses
-import pathlib
-import tomllib
-
 from dialect_tables import codes, quoted
 from kept import Kept, Manual
+from kind import KINDS
 from layout import arm_of_many, equation
 from place import Alternatives, Between, Line, Part, Table
 
-# What each sentence has after its own words.
-AT = " at byte index "
-
-
-@dataclasses.dataclass(frozen=True)
-class Kind:
-    """A row. `fields` has the names of the fields before the index, with the lines on them."""
-
-    variant: str
-    theirs: str
-    defined: str
-    about: str
-    index: str
-    extent: str
-    code: str
-    fields: dict = dataclasses.field(default_factory=dict)
-    words: tuple = ()
-    is_quoted: bool = False
-    says: tuple = ()
-
-    @property
-    def enum(self):
-        return f"InvalidFormatDescription::{self.theirs}"
-
-    @property
-    def begins(self):
-        """The sentence before its word, or up to its index."""
-        return self.says[0] + ("" if self.words else AT)
-
-    @property
-    def ends(self):
-        """The sentence between its word and its index."""
-        return self.says[-1] + AT
-
-    @property
-    def all_fields(self):
-        return ", ".join([*self.fields, "index"])
-
-    def applied(self, words):
-        """The kind of these words in a definition: `(invalid_name name)`."""
-        return f"({self.defined} {' '.join(words)})" if words else self.defined
-
-    def by_word(self):
-        """The kind, where what isn't valid of a modifier is called a word."""
-        return self.applied(["word" if it == "value" else it for it in self.words])
-
-
-KINDS = [Kind(*it[:1], **it[1]) for it in tomllib.loads((pathlib.Path(__file__).resolve().parent / "kinds.toml").read_text()).items()]
 OTHERS = [it for it in KINDS if not it.is_quoted]
 
 
