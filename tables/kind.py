@@ -22,6 +22,7 @@ class Kind:
     code: str
     fields: dict = dataclasses.field(default_factory=dict)
     words: tuple = ()
+    holds: str = ""
     is_quoted: bool = False
     says: tuple = ()
 

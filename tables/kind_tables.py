@@ -19,6 +19,14 @@ def variants():
     return lines
 
 
+def kinds():
+    """The same without the index, whose words are borrowed."""
+    for it in KINDS:
+        words = ", ".join("&'a str" if it.is_quoted else "&'static str" for _ in it.words)
+        yield f"    /// `{it.theirs}`{f', with {it.holds}' if it.holds else ''}."
+        yield f"    {it.variant}({words})," if words else f"    {it.variant},"
+
+
 def indices():
     return arm_of_many(12, [f"{it.enum} {{ {'index, ..' if it.fields else 'index'} }}" for it in KINDS], "*index")
 
@@ -128,6 +136,7 @@ ARM = "            InvalidFormatDescription::"
 
 TABLES = [
     Table(ERROR, Between(("pub enum InvalidFormatDescription {",), "}"), variants),
+    Table(f"{SOURCES}/rule.rt", Between(("pub enum FaultKind<",), "}"), kinds),
     Table(ERROR, Between(("pub fn index(", "match self {"), "        }"), indices),
     Kept(ERROR, Between(("pub fn clone(", "match self {"), "        }"), copies, begins=ARM),
     Kept(ERROR, Between(("fn fmt<", "match self {"), "        }"), displayed, begins=ARM),
