@@ -117,6 +117,12 @@ def bound_variants():
     return [line for it in FAULTS for line in (f"    /// {it.bound}", f"    {it.variant},")]
 
 
+def union():
+    """The names as a type of TypeScript, in the order of the alphabet."""
+    *lines, last = [f'    | "{name}"' for name in sorted(it.name for it in FAULTS)]
+    return [*lines, f"{last};"]
+
+
 def imported(file, enum):
     names = ", ".join(it.variant for it in FAULTS)
     begins = f"use Rattle.{enum}.TheVariants."
@@ -209,6 +215,7 @@ OUTSIDE = [
         BOUND, Between(("pub(crate) fn from_number(", "Some(match"), "            _ =>"), FAULTS,
         "            {0.number} => Self::{0.variant},",
     ),
+    Table("bindings/javascript/timefd.d.ts", Between(("export type FaultCode =",), ""), union),
     each("bindings/python/timefd/errors.py", Between(("class FaultKind(", '"""', ""), ""), FAULTS, "    {0.capitals} = {0.number}"),
     Part(
         "fuzz/diagnoses.c", "expect(fault->code >=", r"(?<=<= )TIMEFD_FAULT_\w+", lambda: f"TIMEFD_FAULT_{FAULTS[-1].capitals}",
