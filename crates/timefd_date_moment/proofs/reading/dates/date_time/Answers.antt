@@ -1,5 +1,5 @@
 use Rattle.std.proofs.Common.{inr}
-use Rattle.timefd_date_moment.proofs.reading.date_times.date_time.Goals as goal
+use Rattle.timefd_date_moment.proofs.reading.dates.date_time.Goals as goal
 
 -- there is a date, so the error is that of the time
 pub returns-in-Err-time : goal.returns-in-Err-time
