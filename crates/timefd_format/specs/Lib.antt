@@ -10,6 +10,7 @@ pub mod Spelled
 pub mod Absent
 pub mod ReadBack
 pub mod Sources
+pub mod Days
 pub mod Tallies
 pub mod Failures
 pub mod Expected
