@@ -1,5 +1,5 @@
 -- What is wrong with a text where it stands.
-use Rattle.std.proofs.Common.{◌≡◌, Bool, true, Option, None, Some, List, [], ◌∷◌, Result, refl, subst, sym}
+use Rattle.std.proofs.Common.{◌≡◌, Bool, true, Option, None, Some, List, [], ◌∷◌, Result, ap, refl, subst, sym}
 use Rattle.std.specs.Prelude.{IfOk, IfSome, flat_map, is_some}
 use Rattle.std.specs.declared.alloc.Global.{Global}
 use Rattle.std.specs.declared.vec.Vec.{Vec}
@@ -16,6 +16,7 @@ use Rattle.timefd_lint_diagnosis.specs.Diagnoses.{IsDiagnosis}
 use Rattle.timefd_lint_diagnosis.specs.Further.{AreFurther, most_further, without}
 use Rattle.timefd_lint_scan.specs.declared.description.SourceDescription.{SourceDescription}
 use Rattle.timefd_lint_scan.specs.declared.known.Items.{Items}
+use Rattle.timefd_lint_warnings.specs.Found.{IsFoundIn}
 use Rattle.timefd_lint_sources.specs.declared.reported.SourceText.{SourceText}
 use Rattle.timefd_lint_sources.specs.declared.judgement.RefusedParts.{RefusedParts}
 use Rattle.timefd_lint_sources.specs.declared.judgement.TextPlace.{TextPlace}
@@ -24,12 +25,20 @@ use Rattle.timefd_lint_sources.specs.declared.judgement.TextJudgement.{TextJudge
 use Rattle.timefd_lint_sources.specs.declared.judgement.TextJudgement.TheVariants.{Faulty, Right, Refused}
 use Rattle.timefd_lint_sources.specs.Allowed.{IsLeftOf, IsRefusalLeft, unless_allowed, unless_trap}
 use Rattle.timefd_lint_sources.specs.Search.{IsSearched}
-use Rattle.timefd_lint_sources.specs.Judgements.{AreTrapsIf, IsJudgement, unless_item}
+use Rattle.timefd_lint_sources.specs.Judgements.{AreTrapsIf, IsAcceptedBy, IsJudgement, found_if, unless_item}
 use Rattle.timefd_parse.specs.Language.{FaultIn}
 
 pub in_place : {E : Type 0} (place given : TextPlace) (levels : Option Levels) (text : Text) (done : Result TextJudgement E)
     → place ≡ given → IfOk done (IsJudgement given levels text) → IfOk done (IsJudgement place levels text)
 in_place place given levels text done is judged = subst (λ p. IfOk done (IsJudgement p levels text)) (sym is) judged
+
+-- A text whose warnings were found at once is accepted, and has these warnings.
+pub accepted_at_once : (language : Language) (levels : Option Levels) (asked : Levels) (text : Text) (found : Option Levels)
+    → levels ≡ Some asked → IfSome found (IsFoundIn language asked text)
+    → IfSome found (λ f. IsAcceptedBy language levels text (Some f))
+accepted_at_once language levels asked text None is f = tt
+accepted_at_once language levels asked text (Some x) is (list, spelled, are) =
+    (list, spelled, subst (λ l. Some x ≡ found_if l language list) (sym is) (ap Some are))
 
 -- The faults of a text, which was diagnosed.
 pub are_faults : (language : Language) (items : Items) (levels : Option Levels) (text : Text) (found : Option Diagnostic)
