@@ -13,8 +13,10 @@ use Rattle.timefd_lint_scan.specs.declared.description.SourceDescription.{Source
 use Rattle.timefd_lint_scan.specs.declared.dialect.FormatLanguage.{FormatLanguage}
 use Rattle.timefd_lint_scan.specs.declared.dialect.FormatLanguage.TheVariants.{One, Two, Three, Strftime, Python, C, Gnu, Chrono, Jiff, Ruby, Java, Go, Moment}
 use Rattle.timefd_lint_scan.specs.Chrono.{is_of_chrono, is_of_jiff}
+use Rattle.timefd_lang_warnings.specs.declared.levels.Level.TheVariants as level
 use Rattle.timefd_lang_warnings.specs.declared.levels.Levels.{Levels}
-use Rattle.timefd_lint_warnings.specs.Found.{found_by}
+use Rattle.timefd_lang_warnings.specs.Levels.{all_at}
+use Rattle.timefd_lint_warnings.specs.Found.{found_in}
 use Rattle.timefd_lint_sources.specs.declared.reported.ItemEnd.{ItemEnd}
 use Rattle.timefd_lint_sources.specs.declared.reported.ItemEnd.TheVariants.{PassedOver, Accepted, Converted, Refused, NotText, Allowed, UnreadCall, UnreadValue, WrongComment}
 
@@ -74,6 +76,11 @@ text_of d = d.unescaped.text.items
 
 abbrev pub language_in : SourceDescription → Language
 language_in d = language_of d.dialect
+
+-- These levels if warnings are asked for; with `None` every warning is allowed.
+abbrev pub found_by : Option Levels → Language → List Tree → Levels
+found_by None language list = all_at level.Allowed
+found_by (Some levels) language list = found_in language levels list
 
 -- A text is accepted if it spells a list, with the warnings of that list; refused if it has a fault;
 -- and otherwise it isn't UTF-8.

@@ -16,9 +16,8 @@ use Rattle.timefd_language.specs.Grammar.{nesting_limit}
 use Rattle.timefd_lint_sources.specs.declared.reported.ItemEnd.{ItemEnd}
 use Rattle.timefd_lint_sources.specs.declared.reported.ItemEnd.TheVariants.{PassedOver, Accepted, Converted, Refused, NotText, Allowed, UnreadCall, UnreadValue, WrongComment}
 use Rattle.timefd_lint_sources.specs.declared.reported.SourceText.{SourceText}
-use Rattle.timefd_lint_sources.specs.Judged.{is_passed_over, language_in, text_of}
+use Rattle.timefd_lint_sources.specs.Judged.{is_passed_over, language_in, text_of, found_by}
 use Rattle.timefd_lint_sources.specs.Reported.{AllFound, AreAllOf, IsFound}
-use Rattle.timefd_lint_warnings.specs.Found.{found_by}
 use Rattle.timefd_language.specs.declared.description_version.Language.{Language}
 use Rattle.timefd_parse.specs.Language.{FaultIn, SpellsIn}
 use Rattle.timefd_lint_scan.specs.declared.description.SourceDescription.{SourceDescription}
