@@ -25,7 +25,7 @@ use Rattle.timefd_lint_lsp.specs.declared.editor.action.Action.{Action}
 use Rattle.timefd_lint_lsp.specs.declared.editor.action.WantedActions.{WantedActions}
 use Rattle.timefd_lint_lsp.specs.declared.editor.completing.Completion.{Completion}
 use Rattle.timefd_lint_lsp.specs.declared.editor.finding.Finding.{Finding}
-use Rattle.timefd_lint_lsp.specs.declared.editor.hovering.Hover.{Hover}
+use Rattle.timefd_lint_lsp.specs.declared.editor.fault_hover.Hover.{Hover}
 use Rattle.timefd_lint_lsp.specs.declared.editor.position.DocumentPosition.{DocumentPosition}
 use Rattle.timefd_lint_lsp.specs.declared.editor.position.DocumentRange.{DocumentRange}
 use Rattle.timefd_lint_lsp.specs.Editor.Actions.{AreActionsOf}

@@ -13,7 +13,7 @@ use Rattle.timefd_lint_lsp.specs.declared.editor.completing.Completion.{Completi
 use Rattle.timefd_lint_lsp.specs.declared.editor.finding.Finding.{Finding}
 use Rattle.timefd_lint_lsp.specs.declared.editor.finding.Severity.{Severity}
 use Rattle.timefd_lint_lsp.specs.declared.editor.finding.Severity.TheVariants.{Error, Warning}
-use Rattle.timefd_lint_lsp.specs.declared.editor.hovering.Hover.{Hover}
+use Rattle.timefd_lint_lsp.specs.declared.editor.fault_hover.Hover.{Hover}
 use Rattle.timefd_lint_lsp.specs.declared.editor.position.DocumentPosition.{DocumentPosition}
 use Rattle.timefd_lint_lsp.specs.declared.editor.position.DocumentRange.{DocumentRange}
 

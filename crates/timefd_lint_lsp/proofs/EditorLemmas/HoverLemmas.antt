@@ -3,7 +3,7 @@ use Rattle.std.proofs.Common.{ℕ, ◌≡◌, Bool, true, false, List, [], ◌�
 use Rattle.std.proofs.lemmas.List.Elements.{All-head, All-tail}
 use Rattle.std.specs.Prelude.{IfOk, IfSome, IsTrue, IsUtf8, Result, Ok, Err, if◌then◌else◌}
 use Rattle.timefd_parse.specs.Tree.{Text, Tree}
-use Rattle.timefd_lint_lsp.specs.declared.editor.hovering.Hover.{Hover}
+use Rattle.timefd_lint_lsp.specs.declared.editor.fault_hover.Hover.{Hover}
 use Rattle.timefd_lint_lsp.specs.Editor.FaultHovers.{IsFaultHover, is_at_fault}
 use Rattle.timefd_lint_lsp.specs.Editor.GoodFronts.{IsGoodFront}
 use Rattle.timefd_lint_lsp.specs.Editor.Hovers.{IsHoverIn, IsPartOrFault, IsShownAt, IsShownBy, IsShownIn, IsShownOf, IsShownOfAny, IsShownOn, IsShownRefused, IsShownRefusedIf, IsShownWhere, byte_at, covers, first_at, innermost, innermost_from, is_at}

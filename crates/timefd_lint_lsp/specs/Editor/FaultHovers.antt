@@ -2,7 +2,7 @@
 use Rattle.std.specs.Prelude.{ℕ, ◌≡◌, ◌==◌, Bool, false, ◌&&◌, ◌||◌, nat_le, nat_lt, string_bytes}
 use Rattle.timefd_parse.specs.Tree.{Text}
 use Rattle.timefd_lint_diagnosis.specs.declared.diagnostic.Diagnostic.{Diagnostic}
-use Rattle.timefd_lint_lsp.specs.declared.editor.hovering.Hover.{Hover}
+use Rattle.timefd_lint_lsp.specs.declared.editor.fault_hover.Hover.{Hover}
 use Rattle.timefd_lint_lsp.specs.Editor.Findings.{fault_words}
 use Rattle.timefd_lint_lsp.specs.Editor.Positions.{range_of}
 use Rattle.timefd_lint_scan.specs.declared.description.SourceDescription.{SourceDescription}

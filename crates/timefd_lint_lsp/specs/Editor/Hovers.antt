@@ -4,7 +4,7 @@ use Rattle.timefd_parse.specs.Tree.{Text, Tree, trees}
 use Rattle.timefd_lint_diagnosis.specs.declared.diagnostic.Diagnostic.{Diagnostic}
 use Rattle.timefd_lint_diagnosis.specs.Diagnoses.{IsDiagnosed}
 use Rattle.timefd_lint_drawing.specs.Shown.{safe}
-use Rattle.timefd_lint_lsp.specs.declared.editor.hovering.Hover.{Hover}
+use Rattle.timefd_lint_lsp.specs.declared.editor.fault_hover.Hover.{Hover}
 use Rattle.timefd_lint_lsp.specs.Editor.FaultHovers.{IsFaultHover, is_at_fault}
 use Rattle.timefd_lint_lsp.specs.Editor.GoodFronts.{IsGoodFront}
 use Rattle.timefd_lint_lsp.specs.Editor.Positions.{range_of}

@@ -6,10 +6,20 @@ ghost use Rattle.timefd_lint_lsp.specs.Editor.FaultHovers as spec;
 
 use crate::editor::counter::{none_counted, range_from};
 use crate::editor::faults::words_on;
-use crate::editor::hovering::Hover;
+use crate::editor::position::DocumentRange;
 use std::alloc::{AllocError, Global};
 use timefd_lint_diagnosis::Diagnostic;
 use timefd_lint_scan::{SourceDescription, index_in_source};
+
+/// What is shown for a part of a description, or for its fault.
+#[derive(Drop)]
+pub struct Hover {
+    /// Where the part or the fault is.
+    pub range: DocumentRange,
+    /// For a part: what it is, how many bytes it reserves, and an example of what it writes, in two lines. For a
+    /// fault: a sentence, and what helps.
+    pub text: String,
+}
 
 /// Whether an index of the document is at one of the bytes at fault, or where such a byte is missing.
 pub fn is_at_fault(description: &SourceDescription, diagnostic: &Diagnostic, index: usize) -> bool

@@ -5,9 +5,8 @@ ghost use Rattle.timefd_lint_lsp.specs.Editor.Hovers.{IsHoverOf, IsPartOrFault, 
 ghost use Rattle.timefd_lint_lsp.specs.Editor.Hovers as spec;
 
 use crate::editor::counter::{none_counted, range_from};
-use crate::editor::fault_hover::{fault_hover, is_at_fault};
+use crate::editor::fault_hover::{Hover, fault_hover, is_at_fault};
 use crate::editor::good_front::good_front;
-use crate::editor::position::DocumentRange;
 use std::alloc::{AllocError, Global};
 use std::str;
 use timefd_lint_diagnosis::{Diagnostic, diagnose};
@@ -15,16 +14,6 @@ use timefd_lint_drawing::shown::safe;
 use timefd_lint_explain::{ShownNode, explanation_of};
 use timefd_lint_scan::{PlacedToken, SourceDescription, index_in_source};
 use timefd_lint_sources::{SourceText, descriptions_in, is_passed_over, language_of};
-
-/// What is shown for a part of a description, or for its fault.
-#[derive(Drop)]
-pub struct Hover {
-    /// Where the part or the fault is.
-    pub range: DocumentRange,
-    /// For a part: what it is, how many bytes it reserves, and an example of what it writes, in two lines. For a
-    /// fault: a sentence, and what helps.
-    pub text: String,
-}
 
 /// What the part at a byte index means: the component with its modifiers, the bytes that it reserves, and an
 /// example. In a description with a fault: what is wrong at that index, and what helps, or else the part that is
