@@ -21,6 +21,7 @@ pub mod NamedCallLemmas
 pub mod LayoutLemmas
 pub mod TakenLemmas
 pub mod LookLemmas
+pub mod DocTestLemmas
 pub mod FoundLemmas
 pub mod GrammarLemmas
 pub mod WrittenLemmas

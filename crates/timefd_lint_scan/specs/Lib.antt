@@ -37,6 +37,8 @@ pub mod Gathered
 pub mod Names
 pub mod Found
 pub mod Looks
+pub mod DocTests
+pub mod DocLooks
 pub mod Chrono
 pub mod Grammar
 pub mod Written

@@ -86,7 +86,8 @@ fn described(
     }
 }
 
-fn described_any(
+/// A literal as a description, if there is one.
+pub fn described_any(
     alloc: Global,
     source: &str,
     candidate: Option<CandidateLiteral>,

@@ -194,9 +194,9 @@ fn seen_in(
     })
 }
 
-/// Looks for descriptions in a source, with these calls of its project. An `Err` says that memory ran out, or that the source has
-/// 4 GiB or more.
-pub fn looked_at(alloc: Global, source: &str, own: &[OwnCall]) -> Result<Look, AllocError>
+/// Looks for descriptions in a source, with these calls of its project, but not in examples in its comments. An `Err` says that
+/// memory ran out, or that the source has 4 GiB or more.
+pub fn look_of(alloc: Global, source: &str, own: &[OwnCall]) -> Result<Look, AllocError>
     ensures { IfOk result (IsLook source.now own.now) }
 {
     if !may_describe(source.as_bytes(), own) {
@@ -218,20 +218,4 @@ pub fn looked_at(alloc: Global, source: &str, own: &[OwnCall]) -> Result<Look, A
         calls,
         comments: words,
     })
-}
-
-/// The descriptions in a source, in order: arguments of known calls and of these calls of its project, what such a call gets by
-/// a name of the same file, and literals for which a comment names a language. An `Err` says that memory ran out, or that the
-/// source has 4 GiB or more.
-pub fn descriptions_of(
-    alloc: Global,
-    source: &str,
-    own: &[OwnCall],
-) -> Result<Vec<SourceDescription>, AllocError>
-    ensures all { IfOk result (λ found. AreDescriptionsOf source.now own.now found.items) }
-    ensures stand { IfOk result (λ found. AllStandIn source.now found.items) }
-    ensures in_order { IfOk result (λ found. AreInOrder 0 found.items) }
-{
-    let seen = looked_at(alloc, source, own)?;
-    Ok(seen.descriptions)
 }

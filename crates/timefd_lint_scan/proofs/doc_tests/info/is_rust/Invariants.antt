@@ -1,0 +1,9 @@
+use Rattle.std.proofs.Common.{length}
+use Rattle.timefd_lint_scan.proofs.DocTestLemmas.{IsLeft}
+use Rattle.timefd_lint_scan.proofs.doc_tests.info.is_rust.Given as goal
+
+abbrev pub invariant-words : goal.invariant-words
+invariant-words l = IsLeft l.info l.rest l.verdict
+
+abbrev pub decreases-words : goal.decreases-words
+decreases-words l = length l.rest
