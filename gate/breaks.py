@@ -111,7 +111,7 @@ def front_end(copy):
 def joined(line, after, variant):
     """The line with the new variant in a pattern that the neighbour has there; `after` is the next line."""
     name = variant.word in line and re.search(rf"\b{variant.enum}::{variant.word}\b(\([^()]*\)| \{{[^{{}}]*\}})?", line)
-    is_arm = name and ("=>" in line or "|" in line.strip()[0] + after.strip()[:1])
+    is_arm = name and ("=>" in line or any(re.match(r"\s*\|(?!\|)", it) for it in (line, after)))
     if not is_arm or re.search("=>| if ", line[: name.start()]):
         return line
     return f"{line[: name.end()]} | {name.group(0).replace('::', '::Another')}{line[name.end() :]}"
