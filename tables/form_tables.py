@@ -1,26 +1,15 @@
 """What users read of the forms of `forms.toml`: in what `--help` writes, in the manual, and in the shells' completions."""
-import pathlib
-import sys
-import tomllib
-
+from form import FORMS
 from layout import filled
 from place import Between, Part, Table
 
-FORMS = tomllib.loads((pathlib.Path(__file__).resolve().parent / "forms.toml").read_text())
 # Where the texts of options begin in what `--help` writes, and the longest line there.
 COLUMN, LONGEST = 31, 102
 
 
-def check():
-    """That each row has its cells and no others."""
-    for name, cells in FORMS.items():
-        if set(cells) != {"usage", "man"}:
-            sys.exit(f"tables/forms.toml: `{name}` has {', '.join(f'`{it}`' for it in cells)}, and not `usage` and `man`")
-
-
 def usage():
     """The texts in one sentence, as much in each line as it has room for."""
-    *texts, last = [cells["usage"] for cells in FORMS.values()]
+    *texts, last = [it.usage for it in FORMS]
     first, *words = f"{', '.join(texts)}, or {last}".split(" ")
     return filled(" " * COLUMN + first, words, COLUMN, LONGEST)
 
@@ -33,14 +22,14 @@ def ended(lines, end):
 
 def manual():
     """The texts in one sentence, each in lines of its own."""
-    *texts, last = [cells["man"] for cells in FORMS.values()]
+    *texts, last = [it.man for it in FORMS]
     first, *lines = [line for it in texts for line in ended(it, ",")]
     return [f"how a fault is written: {first}", *lines, *ended([f"or {last[0]}", *last[1:]], ".")]
 
 
 def listed(file, begins, pattern, between=" "):
     """The names of all forms, in a line of a file."""
-    return Part(file, begins, pattern, lambda: between.join(FORMS))
+    return Part(file, begins, pattern, lambda: between.join(it.name for it in FORMS))
 
 
 USAGE, MANUAL, COMPLETIONS = "crates/timefd_lint/src/usage.rt", "packages/man/timefd_lint.1", "packages/completions"
@@ -55,5 +44,3 @@ TABLES = [
     listed(f"{COMPLETIONS}/timefd_lint.fish", "complete -c timefd_lint -l format", r"(?<=-a ')[^']*"),
     listed(f"{COMPLETIONS}/_timefd", "'--format[", r"(?<=:format:\()[^)]*"),
 ]
-
-check()
