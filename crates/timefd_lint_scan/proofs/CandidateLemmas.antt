@@ -124,7 +124,7 @@ begun from d pass = rw pass refl
 not_begun : (from : ℕ) (d : SourceDescription) → nat_le from (begin_of d) ≡ false → begun_after from (Some d) ≡ None
 not_begun from d fail = rw fail refl
 
-stands_more : (source : Text) (from : ℕ) (c : CandidateLiteral) (answer : Option SourceDescription) (rest : List SourceDescription)
+pub stands_more : (source : Text) (from : ℕ) (c : CandidateLiteral) (answer : Option SourceDescription) (rest : List SourceDescription)
     → IsDescribed source c answer → AllStandIn source rest
     → AllStandIn source (option_to_list (begun_after from answer) ++ rest)
 stands_more source from c None rest is all = all
@@ -144,7 +144,7 @@ all_stand source from (c ∷ cs) found (answer, rest, is, more, split) =
     (stands_more source from c answer rest is
     (all_stand source (end_after from (begun_after from answer)) cs rest more))
 
-in_order_more : (from : ℕ) (answer : Option SourceDescription) (rest : List SourceDescription)
+pub in_order_more : (from : ℕ) (answer : Option SourceDescription) (rest : List SourceDescription)
     → AreInOrder (end_after from (begun_after from answer)) rest
     → AreInOrder from (option_to_list (begun_after from answer) ++ rest)
 in_order_more from None rest more = more

@@ -20,6 +20,7 @@ pub mod FollowingLemmas
 pub mod NamedCallLemmas
 pub mod LayoutLemmas
 pub mod TakenLemmas
+pub mod JoinLemmas
 pub mod LookLemmas
 pub mod DocTestLemmas
 pub mod FoundLemmas

@@ -2,6 +2,11 @@
 use Rattle.std.specs.Prelude.{ℕ, zero, suc, ◌≡◌, ◌+◌, ◌-◌, ◌<◌, ◌⊎◌, Bool, true, false, not, ◌&&◌, ◌||◌, ◌==◌, nat_eq, nat_le, nat_lt, if◌then◌else◌, List, [], ◌∷◌, ◌++◌, codes, bytes_eq, drop, get_or, length, replicate, take, Option, Some, None}
 use Rattle.std.specs.List.{prefix_len, starts_with}
 use Rattle.timefd_lint_scan.specs.declared.class.ByteSet.TheVariants.{White}
+use Rattle.timefd_lint_scan.specs.declared.doc_tests.DocTest.{DocTest}
+use Rattle.timefd_lint_scan.specs.declared.doc_tests.before.LineBefore.{LineBefore}
+use Rattle.timefd_lint_scan.specs.declared.doc_tests.line.DocLine.{DocLine}
+use Rattle.timefd_lint_scan.specs.declared.doc_tests.line.DocSide.{DocSide}
+use Rattle.timefd_lint_scan.specs.declared.doc_tests.line.DocSide.TheVariants.{Outer, Inner}
 use Rattle.timefd_lint_scan.specs.declared.doc_tests.place.DocPlace.{DocPlace}
 use Rattle.timefd_lint_scan.specs.declared.doc_tests.place.DocPlace.TheVariants.{Outside, Example, Block}
 use Rattle.timefd_lint_scan.specs.declared.doc_tests.fence.Fence.{Fence}
@@ -118,93 +123,112 @@ place_after (Example fence) line =
 place_after (Block fence) line =
     if is_closing_by fence (after_run is_white line) then Outside else Block fence
 
--- A line of a doc comment: whether it is about the item that it is in, and what stands after its sign.
+-- A line of a doc comment: the item that it is about, and what stands after its sign.
 pub record Line : Type 0 where
   pub piece : PlacedToken
-  pub inner : Bool
+  pub side : DocSide
   pub text : Text
 
+abbrev pub read : DocLine → Line
+read line = record { piece = line.piece; side = line.side; text = line.text.now }
+
+abbrev pub read_any : Option DocLine → Option Line
+read_any None = None
+read_any (Some line) = Some (read line)
+
 -- a comment as a line of a doc comment, if it is one: `///`, but not `////`, or `//!`
-abbrev pub line_of : PlacedToken → Option Text → Option Line
-line_of p None = None
-line_of p (Some comment) =
-    if bytes_eq (take 4 comment) (codes "////") then None
-    else if bytes_eq (take 3 comment) (codes "///") then Some (record { piece = p; inner = false; text = drop 3 comment })
-    else if bytes_eq (take 3 comment) (codes "//!") then Some (record { piece = p; inner = true; text = drop 3 comment })
+abbrev pub line_in : PlacedToken → Text → Option Line
+line_in p comment =
+    if starts_with nat_eq comment (codes "////") then None
+    else if starts_with nat_eq comment (codes "///") then Some (record { piece = p; side = Outer; text = drop 3 comment })
+    else if starts_with nat_eq comment (codes "//!") then Some (record { piece = p; side = Inner; text = drop 3 comment })
     else None
 
+abbrev pub line_of : PlacedToken → Option Text → Option Line
+line_of p None = None
+line_of p (Some comment) = line_in p comment
+
+-- the bytes between a line and the one before it
+abbrev pub gap : Text → Option LineBefore → Line → Text
+gap source None line = []
+gap source (Some before) line = take (line.piece.start - before.end) (drop before.end source)
+
+abbrev pub is_same : DocSide → DocSide → Bool
+is_same Outer Outer = true
+is_same Outer Inner = false
+is_same Inner Outer = false
+is_same Inner Inner = true
+
 -- A line goes on with the doc comment of the line before it: only white bytes are between them.
-abbrev pub goes_on : Text → Option Line → Line → Bool
-goes_on source None line = false
-goes_on source (Some before) line =
-    (if before.inner then line.inner else not line.inner) && nat_le before.piece.end line.piece.start
-    && length (after_run is_white (take (line.piece.start - before.piece.end) (drop before.piece.end source))) == 0
+abbrev pub goes_on : Text → LineBefore → Line → Bool
+goes_on source before line =
+    is_same before.side line.side && nat_le before.end line.piece.start
+    && length (after_run is_white (gap source (Some before) line)) == 0
 
-abbrev pub place_before : Text → DocPlace → Option Line → Line → DocPlace
-place_before source place before line = if goes_on source before line then place else Outside
+-- where a line stands: at the place after the line before it, if it goes on with the doc comment of that
+abbrev pub place_of : Text → Option LineBefore → Line → DocPlace
+place_of source None line = Outside
+place_of source (Some before) line = if goes_on source before line then before.place else Outside
 
--- an example: its code, and where that begins in the source
-pub record TestCode : Type 0 where
-  pub start : ℕ
-  pub code : Text
+-- the place after a line
+abbrev pub place_next : Text → Option LineBefore → Line → DocPlace
+place_next source before line = place_after (place_of source before line) line.text
 
--- an example with one line more: the white bytes before it, three spaces for its sign, and its code
-abbrev pub with_line : Text → TestCode → Line → TestCode
-with_line source e line = record {
-  start = e.start;
-  code = e.code ++ take (line.piece.start - (e.start + length e.code)) (drop (e.start + length e.code) source)
-      ++ 32 ∷ 32 ∷ 32 ∷ [] ++ code_of line.text;
-}
-
-abbrev pub begun_at : ℕ → TestCode
-begun_at start = record { start = start; code = [] }
+-- what the comment after this one may go on with: this one, if it is a line
+abbrev pub after_comment : Text → Option LineBefore → Option Line → Option LineBefore
+after_comment source before None = None
+after_comment source before (Some line) =
+    Some (record { side = line.side; end = line.piece.end; place = place_next source before line })
 
 abbrev pub is_in_example : DocPlace → Bool
 is_in_example Outside = false
 is_in_example (Example fence) = true
 is_in_example (Block fence) = false
 
--- the example that is open after a line; it begins after the line that opens it
-abbrev pub open_after : Text → DocPlace → Line → DocPlace → TestCode → TestCode
-open_after source before line now e =
-    if not (is_in_example now) then e
-    else if is_in_example before then with_line source e line
-    else begun_at line.piece.end
+-- A line of an example: it neither opens nor closes it.
+abbrev pub is_line : Text → Option LineBefore → Line → Bool
+is_line source before line = is_in_example (place_of source before line) && is_in_example (place_next source before line)
 
--- the example that was open before a line, if the line isn't in it
-abbrev pub closed_by : Bool → DocPlace → TestCode → List TestCode
-closed_by goes place e = if is_in_example place && not goes then e ∷ [] else []
+-- A line opens an example.
+abbrev pub opens : Text → Option LineBefore → Line → Bool
+opens source before line = not (is_in_example (place_of source before line)) && is_in_example (place_next source before line)
 
--- How far comments are read: where the last one stands, its line, and the example that is open there, if it is in one.
-pub record Walk : Type 0 where
-  pub place : DocPlace
-  pub before : Option Line
-  pub example : TestCode
+-- what a line of an example adds to it: the white bytes before it, three spaces for its sign, and its code
+abbrev pub line_code : Text → Option LineBefore → Line → Text
+line_code source before line = gap source before line ++ 32 ∷ 32 ∷ 32 ∷ [] ++ code_of line.text
 
-abbrev pub place_of : Text → Walk → Line → DocPlace
-place_of source w line = place_before source w.place w.before line
+-- the code that a comment begins with, before the code of the next ones
+abbrev pub code_with : Text → Option LineBefore → Option Line → Text → Text
+code_with source before None rest = []
+code_with source before (Some line) rest = if is_line source before line then line_code source before line ++ rest else []
 
--- after one comment more
-abbrev pub after_comment : Text → Walk → Option Line → Walk
-after_comment source w None = record { place = Outside; before = None; example = w.example }
-after_comment source w (Some line) = record {
-  place = place_after (place_of source w line) line.text;
-  before = Some line;
-  example = open_after source (place_of source w line) line (place_after (place_of source w line) line.text) w.example;
-}
+-- the code of the lines of an example that these comments begin with
+abbrev pub code_from : Text → Option LineBefore → List PlacedToken → Text
+code_from source before [] = []
+code_from source before (c ∷ cs) =
+    code_with source before (line_of c (cut source c)) (code_from source (after_comment source before (line_of c (cut source c))) cs)
 
--- the example that ends before a comment, if one does
-abbrev pub ended_before : Text → Walk → Option Line → List TestCode
-ended_before source w None = closed_by false w.place w.example
-ended_before source w (Some line) =
-    closed_by (is_in_example (place_of source w line) && is_in_example (place_after (place_of source w line) line.text)) w.place w.example
+-- an example: its code, and where that begins in the source
+pub record TestCode : Type 0 where
+  pub start : ℕ
+  pub code : Text
 
--- the examples in these comments, after others
-abbrev pub tests_from : Text → Walk → List PlacedToken → List TestCode
-tests_from source w [] = closed_by false w.place w.example
-tests_from source w (c ∷ cs) =
-    ended_before source w (line_of c (cut source c)) ++ tests_from source (after_comment source w (line_of c (cut source c))) cs
+abbrev pub test_of : DocTest → TestCode
+test_of test = record { start = test.start; code = test.code.items }
+
+-- the example that a comment opens, if it does, with the code of the comments after it: it begins where that comment ends
+abbrev pub opened_in : Text → Option LineBefore → Option Line → Text → List TestCode
+opened_in source before None code = []
+opened_in source before (Some line) code =
+    if opens source before line then record { start = line.piece.end; code = code } ∷ [] else []
+
+-- the examples that these comments open, which follow others
+abbrev pub tests_from : Text → Option LineBefore → List PlacedToken → List TestCode
+tests_from source before [] = []
+tests_from source before (c ∷ cs) =
+    opened_in source before (line_of c (cut source c)) (code_from source (after_comment source before (line_of c (cut source c))) cs)
+    ++ tests_from source (after_comment source before (line_of c (cut source c))) cs
 
 -- the examples in these comments of a source, in order
 abbrev pub tests_in : Text → List PlacedToken → List TestCode
-tests_in source cs = tests_from source (record { place = Outside; before = None; example = begun_at 0 }) cs
+tests_in source cs = tests_from source None cs

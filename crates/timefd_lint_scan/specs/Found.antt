@@ -4,17 +4,12 @@ use Rattle.std.specs.List.{All}
 use Rattle.std.specs.Option.{option_to_list}
 use Rattle.timefd_lint_scan.specs.declared.candidate.CandidateLiteral.{CandidateLiteral}
 use Rattle.timefd_lint_scan.specs.declared.description.SourceDescription.{SourceDescription}
-use Rattle.timefd_lint_scan.specs.declared.own_call.OwnCall.{OwnCall}
-use Rattle.timefd_lint_scan.specs.declared.piece.PlacedToken.{PlacedToken}
 use Rattle.timefd_lint_scan.specs.declared.known.Known.{Known}
 use Rattle.timefd_lint_scan.specs.Bytes.{Text}
 use Rattle.timefd_lint_scan.specs.Between.{IsBetween}
-use Rattle.timefd_lint_scan.specs.Candidates.{candidates}
 use Rattle.timefd_lint_scan.specs.Dates.{is_of_dates}
 use Rattle.timefd_lint_scan.specs.Escapes.{Placed, placed}
 use Rattle.timefd_lint_scan.specs.Literals.{body_end, literal_text}
-use Rattle.timefd_lint_scan.specs.Names.{HasNoName}
-use Rattle.timefd_lint_scan.specs.Sources.{AreTokens}
 use Rattle.timefd_lint_scan.specs.Versions.{IsSaid, first_position}
 
 -- The text of a description is what its literal in the source denotes, on character boundaries of the source;
@@ -87,14 +82,6 @@ AreDescribed source from (c ∷ cs) found =
     × IsDescribed source c answer
     × AreDescribed source (end_after from (begun_after from answer)) cs rest
     × (found ≡ option_to_list (begun_after from answer) ++ rest)
-
--- These are the descriptions of a source with these calls of its project: none if it has none of the names that descriptions come
--- with.
-abbrev pub AreDescriptionsOf : Text → List OwnCall → List SourceDescription → Type 0
-AreDescriptionsOf source own found =
-    (HasNoName source own × (found ≡ []))
-    ⊎ ((all : List PlacedToken) × AreTokens (length source) source all
-    × AreDescribed source 0 (candidates source own all) found)
 
 -- the position of a byte of a description; after the last byte it is the position of the closing quote
 abbrev pub index_in_source : SourceDescription → ℕ → ℕ

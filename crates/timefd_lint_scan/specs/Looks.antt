@@ -1,4 +1,4 @@
--- What is seen in a source: its descriptions, and what can't be checked.
+-- What is seen in a source, without the examples in its comments: its descriptions, and what can't be checked.
 use Rattle.std.specs.Prelude.{ℕ, ◌≡◌, ◌⊎◌, Bool, true, false, not, ◌&&◌, ◌||◌, ◌==◌, if◌then◌else◌, List, [], ◌∷◌, codes, bytes_eq, length, Option, Some, None}
 use Rattle.std.specs.List.{flat_map}
 use Rattle.timefd_lint_scan.specs.declared.description.SourceDescription.{SourceDescription}
@@ -66,7 +66,7 @@ abbrev pub AreUnreadCalls : Text → List OwnCall → List PlacedToken → List 
 AreUnreadCalls source own ps ds calls =
     AreUnread source ps (uses_in source ps (aliases_in source own ps) own) ds (has_word source (codes "chrono") ps) calls
 
--- What is seen in a source that is cut into these tokens, with these calls of its project.
+-- What is seen in a source that is cut into these tokens, without the examples in its comments, with these calls of its project.
 pub record IsSeen (source : Text) (own : List OwnCall) (all : List PlacedToken) (look : Look) : Type 0 where
   pub tokens : AreTokens (length source) source all
   pub descriptions : AreDescribed source 0 (candidates source own all) look.descriptions.items
@@ -79,6 +79,9 @@ pub record IsBlank (look : Look) : Type 0 where
   pub calls : look.calls.items ≡ []
   pub comments : look.comments.items ≡ []
 
--- Nothing is seen in a source that has none of the names that descriptions come with.
-abbrev pub IsLook : Text → List OwnCall → Look → Type 0
-IsLook source own look = (HasNoName source own × IsBlank look) ⊎ ((all : List PlacedToken) × IsSeen source own all look)
+abbrev pub IsSeenAlone : Text → List OwnCall → Look → Type 0
+IsSeenAlone source own look = (all : List PlacedToken) × IsSeen source own all look
+
+-- The same. Nothing is seen in a source that has none of the names that descriptions come with.
+abbrev pub IsLookAlone : Text → List OwnCall → Look → Type 0
+IsLookAlone source own look = (HasNoName source own × IsBlank look) ⊎ IsSeenAlone source own look

@@ -66,3 +66,8 @@ pub record HasNoName (source : Text) (calls : List OwnCall) : Type 0 where
   pub chrono : HasNoCallOfChrono source
   pub jiff : HasNoCallOfJiff source
   pub own : HasNoOwn source calls
+
+-- A source has no fence, which a block in a doc comment begins with.
+pub record HasNoFence (source : Text) : Type 0 where
+  pub backticks : Lacks source (codes "```")
+  pub tildes : Lacks source (codes "~~~")

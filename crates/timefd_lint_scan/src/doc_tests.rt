@@ -1,12 +1,16 @@
 //! Examples in doc comments, as rustdoc compiles them: each is a source by itself.
 
+ghost use Rattle.std.specs.Prelude.{◌≡◌, IfOk, map};
+ghost use Rattle.timefd_lint_scan.specs.DocTests as spec;
+
+mod before;
 mod code;
 mod fence;
 mod info;
 mod line;
 mod place;
 
-use crate::class::{ByteSet, after_run};
+use crate::doc_tests::before::{LineBefore, gap, place_of};
 use crate::doc_tests::code::push_code;
 use crate::doc_tests::line::{DocLine, doc_line};
 use crate::doc_tests::place::{DocPlace, is_in_example, place_after};
@@ -21,36 +25,21 @@ pub struct DocTest {
     pub code: Vec<u8>,
 }
 
-/// Whether a line of a doc comment follows another one of it: only white bytes are between them.
-fn goes_on(source: &[u8], before: Option<DocLine<'_>>, line: DocLine<'_>) -> bool {
-    let Some(before) = before else {
-        return false;
-    };
-    match source.get(before.piece.end..line.piece.start) {
-        Some(between) => before.side == line.side && after_run(ByteSet::White, between).is_empty(),
-        None => false,
-    }
-}
-
-// Adds a line to the last example.
-fn push_line(tests: &mut Vec<DocTest>, source: &[u8], line: DocLine<'_>) -> Result<(), AllocError> {
+// Adds a line to the last example, after the bytes before it.
+fn push_line(tests: &mut Vec<DocTest>, gap: &[u8], text: &[u8]) -> Result<(), AllocError> {
     let Some(test) = tests.last_mut() else {
         return Ok(());
     };
-    let end = test.start + test.code.len();
-    if let Some(between) = source.get(end..line.piece.start) {
-        test.code.extend_from_slice(between)?;
-        test.code.extend_from_slice(b"   ")?;
-        push_code(&mut test.code, line.text)?;
-    }
-    Ok(())
+    test.code.extend_from_slice(gap)?;
+    test.code.extend_from_slice(b"   ")?;
+    push_code(&mut test.code, text)
 }
 
-// Adds what a line that stands between two places says: a line of the example, or the start of another.
+// Adds what a line says that stands between two places: a line of the example, or the start of another.
 fn push_any(
     alloc: Global,
     tests: &mut Vec<DocTest>,
-    source: &[u8],
+    gap: &[u8],
     place: DocPlace,
     now: DocPlace,
     line: DocLine<'_>,
@@ -59,7 +48,7 @@ fn push_any(
         return Ok(());
     }
     if is_in_example(place) {
-        return push_line(tests, source, line);
+        return push_line(tests, gap, line.text);
     }
     tests.push(DocTest {
         start: line.piece.end,
@@ -73,26 +62,32 @@ pub fn doc_tests_of(
     alloc: Global,
     source: &[u8],
     comments: &[PlacedToken],
-) -> Result<Vec<DocTest>, AllocError> {
+) -> Result<Vec<DocTest>, AllocError>
+    ensures { IfOk result (λ tests. map spec.test_of tests.items ≡ spec.tests_in source.now comments.now) }
+{
     let mut tests = Vec::new(alloc);
-    let mut place = DocPlace::Outside;
-    let mut before: Option<DocLine<'_>> = None;
+    let mut before: Option<LineBefore> = None;
     for comment in comments {
-        let line = doc_line(source, *comment);
-        place = match line {
+        before = match doc_line(source, *comment) {
             Some(line) => {
-                let start = if goes_on(source, before, line) {
-                    place
-                } else {
-                    DocPlace::Outside
-                };
-                let now = place_after(start, line.text);
-                push_any(alloc, &mut tests, source, start, now, line)?;
-                now
+                let start = place_of(source, before, line);
+                let place = place_after(start, line.text);
+                push_any(
+                    alloc,
+                    &mut tests,
+                    gap(source, before, line),
+                    start,
+                    place,
+                    line,
+                )?;
+                Some(LineBefore {
+                    side: line.side,
+                    end: line.piece.end,
+                    place,
+                })
             }
-            None => DocPlace::Outside,
+            None => None,
         };
-        before = line;
     }
     Ok(tests)
 }

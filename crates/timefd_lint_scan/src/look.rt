@@ -3,9 +3,9 @@
 ghost use Rattle.std.specs.HashSet.{contains};
 ghost use Rattle.std.specs.Prelude.{◌≡◌, ◌++◌, ◌||◌, IfOk, OnOk, nat_eq, ℕ};
 ghost use Rattle.timefd_lint_scan.specs.Candidates.{candidates_in};
-ghost use Rattle.timefd_lint_scan.specs.Found.{AllStandIn, AreDescribed, AreDescriptionsOf, AreInOrder};
+ghost use Rattle.timefd_lint_scan.specs.Found.{AreDescribed};
 ghost use Rattle.timefd_lint_scan.specs.FoundUses.{IsFound};
-ghost use Rattle.timefd_lint_scan.specs.Looks.{AreTaken, AreUnread, AreUnreadCalls, IsLook};
+ghost use Rattle.timefd_lint_scan.specs.Looks.{AreTaken, AreUnread, AreUnreadCalls, IsBlank, IsLookAlone, IsSeenAlone};
 ghost use Rattle.timefd_lint_scan.specs.Looks as spec;
 
 use crate::alias_notes::notes_of;
@@ -194,18 +194,22 @@ fn seen_in(
     })
 }
 
-/// Looks for descriptions in a source, with these calls of its project, but not in examples in its comments. An `Err` says that
-/// memory ran out, or that the source has 4 GiB or more.
-pub fn look_of(alloc: Global, source: &str, own: &[OwnCall]) -> Result<Look, AllocError>
-    ensures { IfOk result (IsLook source.now own.now) }
+/// Nothing is seen.
+pub fn blank(alloc: Global) -> Look
+    ensures { IsBlank result }
 {
-    if !may_describe(source.as_bytes(), own) {
-        return Ok(Look {
-            descriptions: Vec::new(alloc),
-            calls: Vec::new(alloc),
-            comments: Vec::new(alloc),
-        });
+    Look {
+        descriptions: Vec::new(alloc),
+        calls: Vec::new(alloc),
+        comments: Vec::new(alloc),
     }
+}
+
+/// Looks for descriptions in a source, with these calls of its project, but not in the examples in its comments. An `Err` says
+/// that memory ran out, or that the source has 4 GiB or more.
+pub fn seen_alone(alloc: Global, source: &str, own: &[OwnCall]) -> Result<Look, AllocError>
+    ensures { IfOk result (IsSeenAlone source.now own.now) }
+{
     let Gathered { pieces, comments } = tokens_of(alloc, source)?;
     let marks = marks_of(alloc, source.as_bytes(), &comments)?;
     let words = unknown_marks(alloc, source.as_bytes(), &comments)?;
@@ -218,4 +222,14 @@ pub fn look_of(alloc: Global, source: &str, own: &[OwnCall]) -> Result<Look, All
         calls,
         comments: words,
     })
+}
+
+/// The same, but nothing is looked for in a source that has none of the names that descriptions come with.
+pub fn look_of(alloc: Global, source: &str, own: &[OwnCall]) -> Result<Look, AllocError>
+    ensures { IfOk result (IsLookAlone source.now own.now) }
+{
+    if !may_describe(source.as_bytes(), own) {
+        return Ok(blank(alloc));
+    }
+    seen_alone(alloc, source, own)
 }

@@ -1,7 +1,7 @@
 //! Whether a source can have descriptions at all: some known word is near every description.
 
 ghost use Rattle.std.specs.Prelude.{◌≡◌, ◌⊎◌, codes, false};
-ghost use Rattle.timefd_lint_scan.specs.Names.{HasNoCallOfChrono, HasNoCallOfJiff, HasNoMacro, HasNoName, HasNoOwn, HasNoParser, HasNoPercent, HasNoPercentEscape, HasNoReaderOfChrono, Lacks};
+ghost use Rattle.timefd_lint_scan.specs.Names.{HasNoCallOfChrono, HasNoCallOfJiff, HasNoFence, HasNoMacro, HasNoName, HasNoOwn, HasNoParser, HasNoPercent, HasNoPercentEscape, HasNoReaderOfChrono, Lacks};
 
 use crate::own_call::{OwnCall, word_of};
 use memchr::{memchr, memmem};
@@ -138,4 +138,14 @@ pub fn may_describe(source: &[u8], own: &[OwnCall]) -> bool
         || has_call_of_chrono(source)
         || has_call_of_jiff(source)
         || has_own(source, own)
+}
+
+/// Whether a source has what blocks in doc comments begin with. Most sources have no such block, and needn't be cut into tokens again.
+pub fn has_fence(source: &[u8]) -> bool
+    ensures { result ≡ false → HasNoFence source.now }
+{
+    if has(source, "```") {
+        return true;
+    }
+    has(source, "~~~")
 }

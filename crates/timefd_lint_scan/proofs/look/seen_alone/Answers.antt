@@ -1,6 +1,6 @@
 use Rattle.std.proofs.Common.{rules}
 use Rattle.timefd_lint_scan.proofs.LookLemmas.{seen}
-use Rattle.timefd_lint_scan.proofs.look.look_of.Goals as goal
+use Rattle.timefd_lint_scan.proofs.look.seen_alone.Goals as goal
 
 pub returns : goal.returns
 returns c =

@@ -1,0 +1,96 @@
+//! Descriptions of a source and of its examples, in order.
+
+ghost use Rattle.std.specs.Prelude.{◌≡◌, ◌++◌, IfOk, OnOk, map};
+ghost use Rattle.timefd_lint_scan.specs.declared.doc_look.joining.Part.TheVariants.{OfExample};
+ghost use Rattle.timefd_lint_scan.specs.DocLooks.{AreJoined, IsEither, after_front, begins_before, by_position, front};
+
+use crate::candidate::CandidateLiteral;
+use crate::description::{SourceDescription, described_any, push_any};
+use std::alloc::{AllocError, Global};
+
+/// A literal of an example, or a description of the source itself.
+#[derive(Drop)]
+pub enum Part {
+    OfExample(CandidateLiteral),
+    OfSource(SourceDescription),
+}
+
+// Adds the literals that begin before a position. Returns the others.
+fn push_before<'a>(
+    parts: &mut Vec<Part>,
+    candidates: &'a [CandidateLiteral],
+    position: usize,
+) -> Result<&'a [CandidateLiteral], AllocError>
+    ensures pushed { OnOk result (parts.new.items ≡ parts.old.items ++ map OfExample (front (begins_before position) candidates.now)) }
+    ensures left { IfOk result (λ left. left.now ≡ after_front (begins_before position) candidates.now) }
+{
+    let mut left = candidates;
+    'candidates: while let [candidate, after @ ..] = left {
+        if !(candidate.piece.start < position) {
+            return Ok(left);
+        }
+        parts.push(Part::OfExample(*candidate))?;
+        left = after;
+    }
+    Ok(left)
+}
+
+// Adds these literals.
+fn push_all(parts: &mut Vec<Part>, candidates: &[CandidateLiteral]) -> Result<(), AllocError>
+    ensures { OnOk result (parts.new.items ≡ parts.old.items ++ map OfExample candidates.now) }
+{
+    let mut left = candidates;
+    'candidates: while let [candidate, after @ ..] = left {
+        parts.push(Part::OfExample(*candidate))?;
+        left = after;
+    }
+    Ok(())
+}
+
+/// These literals and descriptions, by where they begin. An `Err` says that memory ran out.
+pub fn parts_of(
+    alloc: Global,
+    candidates: &[CandidateLiteral],
+    own: Vec<SourceDescription>,
+) -> Result<Vec<Part>, AllocError>
+    ensures { IfOk result (λ parts. parts.items ≡ by_position candidates.now own.entry.items) }
+{
+    let mut parts = Vec::new(alloc);
+    let mut left = candidates;
+    for description in own {
+        left = push_before(&mut parts, left, description.piece.start)?;
+        parts.push(Part::OfSource(description))?;
+    }
+    push_all(&mut parts, left)?;
+    Ok(parts)
+}
+
+fn described_part(
+    alloc: Global,
+    source: &str,
+    part: Part,
+) -> Result<Option<SourceDescription>, AllocError>
+    ensures { IfOk result (IsEither source.now part.entry) }
+{
+    match part {
+        Part::OfExample(candidate) => described_any(alloc, source, Some(candidate)),
+        Part::OfSource(description) => Ok(Some(description)),
+    }
+}
+
+/// The descriptions among these, without those that begin inside of another one. An `Err` says that memory ran out.
+pub fn described_parts(
+    alloc: Global,
+    source: &str,
+    parts: Vec<Part>,
+) -> Result<Vec<SourceDescription>, AllocError>
+    ensures { IfOk result (λ found. AreJoined source.now 0 parts.entry.items found.items) }
+{
+    let mut descriptions = Vec::new(alloc);
+    let mut end = 0;
+    for part in parts {
+        let found = described_part(alloc, source, part)?;
+        end = push_any(&mut descriptions, found, end)?;
+    }
+    Ok(descriptions)
+}
