@@ -11,7 +11,7 @@ use Rattle.timefd_lint_rewrite.specs.declared.layout.Layout.{Layout}
 use Rattle.timefd_lint_rewrite.specs.Layouts.{IsRefusedFor}
 use Rattle.timefd_lint_scan.specs.declared.description.SourceDescription.{SourceDescription}
 use Rattle.timefd_lint_scan.specs.declared.own_call.OwnCall.{OwnCall}
-use Rattle.timefd_lint_scan.specs.Found.{AreDescriptionsOf}
+use Rattle.timefd_lint_scan.specs.DocLooks.{AreDescriptionsOf}
 use Rattle.timefd_lint_sources.specs.Judged.{text_of}
 use Rattle.timefd_lint_sources.specs.Rewriting.Changes.{layout_of}
 use Rattle.timefd_lint_sources.specs.Rewriting.Written.{Becoming, IsLaidOutBy}

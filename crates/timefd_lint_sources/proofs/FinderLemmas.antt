@@ -7,7 +7,8 @@ use Rattle.timefd_lint_scan.specs.declared.keys.key.DescriptionKey.{DescriptionK
 use Rattle.timefd_lint_scan.specs.Keys.Found as keyed
 use Rattle.timefd_lint_scan.specs.declared.description.SourceDescription.{SourceDescription}
 use Rattle.timefd_lint_scan.specs.declared.own_call.OwnCall.{OwnCall}
-use Rattle.timefd_lint_scan.specs.Found.{AllStandIn, AreDescriptionsOf}
+use Rattle.timefd_lint_scan.specs.DocLooks.{AreDescriptionsOf}
+use Rattle.timefd_lint_scan.specs.Found.{AllStandIn}
 use Rattle.timefd_lint_sources.specs.declared.reported.Finder.TheVariants.{Rust, Keys}
 use Rattle.timefd_lint_sources.specs.declared.reported.SourceText.{SourceText}
 use Rattle.timefd_lint_sources.specs.Reported.{AllFound, AreAllBy, AreAllOf, IsFoundBy}

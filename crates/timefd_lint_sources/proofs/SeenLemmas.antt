@@ -8,8 +8,8 @@ use Rattle.timefd_lint_scan.specs.Keys.Found as keyed
 use Rattle.timefd_lint_scan.specs.declared.description.SourceDescription.{SourceDescription}
 use Rattle.timefd_lint_scan.specs.declared.look.Look.{Look}
 use Rattle.timefd_lint_scan.specs.declared.own_call.OwnCall.{OwnCall}
-use Rattle.timefd_lint_scan.specs.Found.{AllStandIn, AreDescriptionsOf, AreInOrder}
-use Rattle.timefd_lint_scan.specs.Looks.{IsLook}
+use Rattle.timefd_lint_scan.specs.DocLooks.{AreDescriptionsOf, IsLook}
+use Rattle.timefd_lint_scan.specs.Found.{AllStandIn, AreInOrder}
 use Rattle.timefd_lint_scan.proofs.LookLemmas.{all_seen, seen_in_order, seen_stand}
 use Rattle.timefd_lint_sources.specs.declared.remark.Remark.{Remark}
 use Rattle.timefd_lint_sources.specs.declared.source.Report.{Report}

@@ -14,7 +14,7 @@ use Rattle.timefd_lint_scan.specs.declared.look.Look.{Look}
 use Rattle.timefd_lint_scan.specs.declared.own_call.OwnCall.{OwnCall}
 use Rattle.timefd_lint_scan.specs.After.{after_run}
 use Rattle.timefd_lint_scan.specs.Bytes.{is_word}
-use Rattle.timefd_lint_scan.specs.Looks.{IsLook}
+use Rattle.timefd_lint_scan.specs.DocLooks.{IsLook}
 use Rattle.timefd_lint_sources.specs.declared.remark.Remark.{Remark}
 use Rattle.timefd_lint_sources.specs.declared.remark.Remark.TheVariants.{Call, Code, Language, Value}
 use Rattle.timefd_lint_sources.specs.declared.no_code.NoCode.{NoCode}

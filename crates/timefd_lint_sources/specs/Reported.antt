@@ -4,7 +4,8 @@ use Rattle.std.specs.Prelude.{Bool, true, false, ◌≡◌, ◌⊎◌, ◌&&◌,
 use Rattle.timefd_parse.specs.Tree.{Text}
 use Rattle.timefd_lint_scan.specs.declared.description.SourceDescription.{SourceDescription}
 use Rattle.timefd_lint_scan.specs.Keys.Found as keys
-use Rattle.timefd_lint_scan.specs.Found.{AreDescriptionsOf, AreInOrder, StandsIn}
+use Rattle.timefd_lint_scan.specs.DocLooks.{AreDescriptionsOf}
+use Rattle.timefd_lint_scan.specs.Found.{AreInOrder, StandsIn}
 use Rattle.timefd_lint_sources.specs.declared.remark.Remark.{Remark}
 use Rattle.timefd_lint_sources.specs.declared.source.Report.{Report}
 use Rattle.timefd_lint_sources.specs.declared.reported.ItemEnd.{ItemEnd}

@@ -29,7 +29,8 @@ use Rattle.timefd_lint_sources.specs.declared.rewriting.outcome.Outcome.{Outcome
 use Rattle.timefd_lint_sources.specs.Rewriting.Written.{IsAnswer, items_of}
 use Rattle.timefd_lint_scan.specs.declared.description.SourceDescription.{SourceDescription}
 use Rattle.timefd_lint_scan.specs.declared.own_call.OwnCall.{OwnCall}
-use Rattle.timefd_lint_scan.specs.Found.{AllStandIn, AreDescriptionsOf, AreInOrder}
+use Rattle.timefd_lint_scan.specs.DocLooks.{AreDescriptionsOf}
+use Rattle.timefd_lint_scan.specs.Found.{AllStandIn, AreInOrder}
 
 pub same_text : (change : Change) (text : Text) (d : SourceDescription) (rewritten : NewParts) (before after : List Action)
     → rewritten.body ≡ None → Adds (IsOneAction change text d rewritten.digit None) before after

@@ -22,7 +22,8 @@ use Rattle.timefd_lint_sources.specs.Rewriting.Written.{IsAnswer, items_of}
 use Rattle.timefd_lint_scan.specs.declared.description.SourceDescription.{SourceDescription}
 use Rattle.timefd_lint_scan.specs.declared.piece.PlacedToken.{PlacedToken}
 use Rattle.timefd_lint_scan.specs.declared.own_call.OwnCall.{OwnCall}
-use Rattle.timefd_lint_scan.specs.Found.{AllStandIn, AreDescriptionsOf, AreInOrder}
+use Rattle.timefd_lint_scan.specs.DocLooks.{AreDescriptionsOf}
+use Rattle.timefd_lint_scan.specs.Found.{AllStandIn, AreInOrder}
 
 abbrev pub kind_of : Change → ActionKind
 kind_of (Mended fixes.Sure) = QuickFix

@@ -11,7 +11,8 @@ use Rattle.timefd_lint_scan.specs.declared.description.SourceDescription.{Source
 use Rattle.timefd_lint_scan.specs.declared.own_call.OwnCall.{OwnCall}
 use Rattle.timefd_lint_scan.specs.declared.version.VersionPosition.{VersionPosition}
 use Rattle.timefd_lint_scan.specs.declared.version.VersionPosition.TheVariants.{Digit, Unsaid, Call, Elsewhere}
-use Rattle.timefd_lint_scan.specs.Found.{AllStandIn, AreDescriptionsOf, AreInOrder}
+use Rattle.timefd_lint_scan.specs.DocLooks.{AreDescriptionsOf}
+use Rattle.timefd_lint_scan.specs.Found.{AllStandIn, AreInOrder}
 use Rattle.timefd_lint_scan.specs.Literals.{body_end, inside}
 use Rattle.timefd_lint_scan.specs.Versions.{digit_of}
 use Rattle.timefd_lint_scan.specs.Written.{IsBodyFor, has_body}
