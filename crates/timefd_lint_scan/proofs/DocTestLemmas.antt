@@ -1,6 +1,6 @@
 -- Examples in doc comments.
-use Rattle.std.proofs.Common.{ℕ, ◌≡◌, ◌∙◌, ◌+◌, ◌<◌, ◌≤◌, List, [], ◌∷◌, ◌++◌, ap, append-nil, append_assoc, arith, drop, inl, inr, length, length-drop, refl, rules, suc, sym, take, zero}
-use Rattle.std.proofs.lemmas.Bool.{cases_Bool}
+use Rattle.std.proofs.Common.{ℕ, ◌≡◌, ◌∙◌, ◌+◌, ◌-◌, ◌<◌, ◌≤◌, List, [], ◌∷◌, ◌++◌, ap, append-nil, append_assoc, arith, drop, get_or, length, length-drop, refl, rules, subst, suc, sym, take, zero}
+use Rattle.std.proofs.Math.Seq.{take-length}
 use Rattle.std.specs.Prelude.{Bool, true, false, not, ◌&&◌, if◌then◌else◌, Option, Some, None, map, slice_index_or, slice_set}
 use Rattle.timefd_lint_scan.specs.declared.doc_tests.DocTest.{DocTest}
 use Rattle.timefd_lint_scan.specs.declared.doc_tests.before.LineBefore.{LineBefore}
@@ -98,7 +98,7 @@ completed_none false es = refl
 -- one line more, which stands in an example or doesn't (`here`), and after which the next one does or doesn't (`next`)
 line_more : (goes here next : Bool) (end : ℕ) (line code : Text) (es more : List TestCode) → (here ≡ true → goes ≡ true)
     → completed goes (if here && next then line ++ code else []) es
-        ++ ((if not here && next then record { start = end; code = code } ∷ [] else []) ++ more)
+    ++ ((if not here && next then record { start = end; code = code } ∷ [] else []) ++ more)
     ≡ completed next code (if not next then es else if here then to_last line es else with_opened end es) ++ more
 line_more goes true true end line code es more so =
     rw (so refl) (ap (λ es. es ++ more) (sym (to_last_twice line code es)))
@@ -126,15 +126,28 @@ comment_more source before (Some line) code es more =
     line_more (is_open before) (is_in_example (place_of source before line)) (is_in_example (place_next source before line))
     line.piece.end (line_code source before line) code es more (goes_on_open source before line)
 
--- A comment less.
-pub one_read : (source : Text) (all rest : List PlacedToken) (c : PlacedToken) (before now : Option LineBefore) (es more : List TestCode)
-    → read_on source before (c ∷ rest) es ≡ tests_in source all → now ≡ after_comment source before (line_of c (cut source c))
-    → more ≡ with_comment source before (line_of c (cut source c)) es → read_on source now rest more ≡ tests_in source all
-one_read source all rest c before now es more same after with =
+one_less_read : (source : Text) (all rest : List PlacedToken) (c : PlacedToken) (before now : Option LineBefore) (es more : List TestCode)
+    → now ≡ after_comment source before (line_of c (cut source c)) → more ≡ with_comment source before (line_of c (cut source c)) es
+    → read_on source before (c ∷ rest) es ≡ tests_in source all → read_on source now rest more ≡ tests_in source all
+one_less_read source all rest c before now es more after with same =
     rw after (rw with (sym (comment_more source before (line_of c (cut source c))
-        (code_from source (after_comment source before (line_of c (cut source c))) rest) es
-        (tests_from source (after_comment source before (line_of c (cut source c))) rest)) ∙ same))
+    (code_from source (after_comment source before (line_of c (cut source c))) rest) es
+    (tests_from source (after_comment source before (line_of c (cut source c))) rest)) ∙ same))
 
-pub all_read : (source : Text) (all : List PlacedToken) (before : Option LineBefore) (es : List TestCode)
-    → read_on source before [] es ≡ tests_in source all → es ≡ tests_in source all
-all_read source all before es same = sym (append-nil (completed (is_open before) [] es) ∙ completed_none (is_open before) es) ∙ same
+-- A comment less.
+pub one_read : (source : Text) (all rest : List PlacedToken) (n : ℕ) (c other : PlacedToken) (before now : Option LineBefore)
+    (es more : List TestCode) → n ≡ length rest → 1 ≤ length rest → c ≡ get_or rest 0 other
+    → now ≡ after_comment source before (line_of c (cut source c)) → more ≡ with_comment source before (line_of c (cut source c)) es
+    → read_on source before rest es ≡ tests_in source all → read_on source now (take (n - 1) (drop 1 rest)) more ≡ tests_in source all
+one_read source all [] n c other before now es more count some is after with same = absurd (omega (arith, some))
+one_read source all (first ∷ rest) n c other before now es more count some is after with same =
+    let few : n - 1 ≡ length rest = omega (arith, count) in
+    let those : take (n - 1) rest ≡ rest = ap (λ k. take k rest) few ∙ take-length rest in
+    rw those (one_less_read source all rest c before now es more after with
+    (subst (λ x. read_on source before (x ∷ rest) es ≡ tests_in source all) (sym is) same))
+
+pub all_read : (source : Text) (all rest : List PlacedToken) (before : Option LineBefore) (es : List TestCode) → length rest < 1
+    → read_on source before rest es ≡ tests_in source all → es ≡ tests_in source all
+all_read source all [] before es none same =
+    sym (append-nil (completed (is_open before) [] es) ∙ completed_none (is_open before) es) ∙ same
+all_read source all (first ∷ rest) before es none same = absurd (omega (arith, none))
