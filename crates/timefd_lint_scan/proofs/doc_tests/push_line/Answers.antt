@@ -1,7 +1,7 @@
-use Rattle.std.proofs.Common.{◌≡◌, ◌-◌, ap, arith, refl}
+use Rattle.std.proofs.Common.{◌-◌, ap, arith, refl}
 use Rattle.std.proofs.lemmas.Result.{on_ok_weaker}
 use Rattle.std.specs.Vec.{vec_len}
-use Rattle.timefd_lint_scan.specs.DocTests.{TestCode, code_after}
+use Rattle.timefd_lint_scan.specs.DocTests.{code_after}
 use Rattle.timefd_lint_scan.specs.Bytes.{Text}
 use Rattle.timefd_lint_scan.proofs.DocTestLemmas.{last_more}
 use Rattle.timefd_lint_scan.proofs.doc_tests.push_line.Goals as goal
