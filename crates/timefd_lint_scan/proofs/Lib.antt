@@ -21,6 +21,7 @@ pub mod NamedCallLemmas
 pub mod LayoutLemmas
 pub mod TakenLemmas
 pub mod JoinLemmas
+pub mod MergeLemmas
 pub mod LookLemmas
 pub mod DocTestLemmas
 pub mod FoundLemmas

@@ -27,7 +27,7 @@ fn together(
     alone: Look,
     examples: &[SeenExample],
 ) -> Result<Look, AllocError>
-    ensures { IfOk result (IsTogether source.now alone.entry examples.now) }
+    ensures { IfOk result (IsTogether source.now alone examples.now) }
 {
     let Look {
         descriptions,

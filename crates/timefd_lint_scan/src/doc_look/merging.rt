@@ -26,14 +26,17 @@ fn push_below<'a>(
 }
 
 /// Two ascending lists as one. An `Err` says that memory ran out.
+#[tactic(auto, using(crate::proofs::MergeLemmas::step))]
 pub fn merged(alloc: Global, one: &[usize], other: &[usize]) -> Result<Vec<usize>, AllocError>
     ensures { IfOk result (λ all. all.items ≡ spec.merged one.now other.now) }
 {
     let mut all = Vec::new(alloc);
     let mut left = other;
-    for at in one {
+    let mut rest = one;
+    'positions: while let [at, after @ ..] = rest {
         left = push_below(&mut all, left, *at)?;
         all.push(*at)?;
+        rest = after;
     }
     all.extend_from_slice(left)?;
     Ok(all)
