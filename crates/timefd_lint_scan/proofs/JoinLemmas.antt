@@ -86,46 +86,60 @@ none_more : (cs : List CandidateLiteral) → by_position cs [] ≡ map OfExample
 none_more [] = refl
 none_more (c ∷ cs) = refl
 
--- One description more among the parts.
-pub step : (all cs left : List CandidateLiteral) (d : SourceDescription) (own ds : List SourceDescription) (parts pushed now : List Part)
-    → parts ++ by_position cs (d ∷ ds) ≡ by_position all own
-    → pushed ≡ parts ++ map OfExample (front (begins_before d.piece.start) cs)
-    → left ≡ after_front (begins_before d.piece.start) cs
-    → now ≡ pushed ++ OfSource d ∷ [] → now ++ by_position left ds ≡ by_position all own
-step all cs left d own ds parts pushed now so_far before after last =
-    let from : List CandidateLiteral → List Part = λ l. OfSource d ∷ by_position l ds in
-    let literals : List Part = map OfExample (front (begins_before d.piece.start) cs) in
-    ap (λ xs. xs ++ by_position left ds) last
-    ∙ (append_assoc pushed (OfSource d ∷ []) (by_position left ds)
-    ∙ (ap (λ xs. xs ++ from left) before
-    ∙ (append_assoc parts literals (from left)
-    ∙ (ap (λ l. parts ++ (literals ++ from l)) after
-    ∙ (ap (λ xs. parts ++ xs) (sym (one_more cs d ds)) ∙ so_far)))))
+-- Of the descriptions these are placed, and of the literals these are left.
+pub record ArePlaced (cs : List CandidateLiteral) (placed : List SourceDescription) (left : List CandidateLiteral) (parts : List Part)
+    : Type 0 where
+  pub others : (ds : List SourceDescription) → parts ++ by_position left ds ≡ by_position cs (placed ++ ds)
 
--- The literals that are left come last.
-pub last_step : (all left : List CandidateLiteral) (own : List SourceDescription) (parts now : List Part)
-    → parts ++ by_position left [] ≡ by_position all own → now ≡ parts ++ map OfExample left → now ≡ by_position all own
-last_step all left own parts now so_far pushed = pushed ∙ (ap (λ xs. parts ++ xs) (sym (none_more left)) ∙ so_far)
+pub none_placed : (cs : List CandidateLiteral) → ArePlaced cs [] cs []
+none_placed cs = record { others = λ ds. refl }
 
--- What is found so far, followed by what is found among the parts that are left, is all that there is.
-pub record AreSoFar (source : Text) (all left : List Part) (end : ℕ) (so_far : List SourceDescription) : Type 0 where
-  pub others : (rest : List SourceDescription) → AreJoined source end left rest → AreJoined source 0 all (so_far ++ rest)
-
-pub at_first : (source : Text) (all : List Part) → AreSoFar source all all 0 []
-at_first source all = record { others = λ rest joined. joined }
-
-pub one_described : (source : Text) (all left : List Part) (x : Part) (answer : Option SourceDescription) (end next : ℕ)
-    (so_far now : List SourceDescription) → IsEither source x answer
-    → now ≡ so_far ++ option_to_list (begun_after end answer) → next ≡ end_after end (begun_after end answer)
-    → AreSoFar source all (x ∷ left) end so_far → AreSoFar source all left next now
-one_described source all left x answer end next so_far now is pushed ends are = record {
-  others = λ rest joined.
-      let found : List SourceDescription = option_to_list (begun_after end answer) in
-      subst (AreJoined source 0 all) (sym (append_assoc so_far found rest) ∙ ap (λ ds. ds ++ rest) (sym pushed))
-      (are.others (found ++ rest)
-      (answer, rest, is, subst (λ (n : ℕ). AreJoined source n left rest) ends joined, refl));
+pub one_placed : (cs before left : List CandidateLiteral) (placed : List SourceDescription) (d : SourceDescription)
+    (parts pushed now : List Part) → pushed ≡ parts ++ map OfExample (front (begins_before d.piece.start) before)
+    → left ≡ after_front (begins_before d.piece.start) before → now ≡ pushed ++ OfSource d ∷ []
+    → ArePlaced cs placed before parts → ArePlaced cs (placed ++ d ∷ []) left now
+one_placed cs before left placed d parts pushed now more after last so_far = record {
+  others = λ ds.
+      let from : List CandidateLiteral → List Part = λ l. OfSource d ∷ by_position l ds in
+      let literals : List Part = map OfExample (front (begins_before d.piece.start) before) in
+      ap (λ xs. xs ++ by_position left ds) last
+      ∙ (append_assoc pushed (OfSource d ∷ []) (by_position left ds)
+      ∙ (ap (λ xs. xs ++ from left) more
+      ∙ (append_assoc parts literals (from left)
+      ∙ (ap (λ l. parts ++ (literals ++ from l)) after
+      ∙ (ap (λ xs. parts ++ xs) (sym (one_more before d ds))
+      ∙ (so_far.others (d ∷ ds) ∙ ap (by_position cs) (sym (append_assoc placed (d ∷ []) ds))))))));
 }
 
-pub at_last : (source : Text) (all : List Part) (end : ℕ) (so_far : List SourceDescription) → AreSoFar source all [] end so_far
-    → AreJoined source 0 all so_far
-at_last source all end so_far are = subst (AreJoined source 0 all) (append-nil so_far) (are.others [] refl)
+-- The literals that are left come last.
+pub all_placed : (cs left : List CandidateLiteral) (ds : List SourceDescription) (parts now : List Part)
+    → now ≡ parts ++ map OfExample left → ArePlaced cs ds left parts → now ≡ by_position cs ds
+all_placed cs left ds parts now pushed so_far =
+    pushed ∙ (ap (λ xs. parts ++ xs) (sym (none_more left)) ∙ (so_far.others [] ∙ ap (by_position cs) (append-nil ds)))
+
+-- What is found among these parts, followed by what is found after them, is all that there is.
+pub record AreSoFar (source : Text) (parts : List Part) (end : ℕ) (so_far : List SourceDescription) : Type 0 where
+  pub others : (more : List Part) (rest : List SourceDescription) → AreJoined source end more rest
+      → AreJoined source 0 (parts ++ more) (so_far ++ rest)
+
+pub at_first : (source : Text) → AreSoFar source [] 0 []
+at_first source = record { others = λ more rest joined. joined }
+
+pub one_described : (source : Text) (parts : List Part) (x : Part) (answer : Option SourceDescription) (end next : ℕ)
+    (so_far now : List SourceDescription) → IsEither source x answer
+    → now ≡ so_far ++ option_to_list (begun_after end answer) → next ≡ end_after end (begun_after end answer)
+    → AreSoFar source parts end so_far → AreSoFar source (parts ++ x ∷ []) next now
+one_described source parts x answer end next so_far now is pushed ends are = record {
+  others = λ more rest joined.
+      let found : List SourceDescription = option_to_list (begun_after end answer) in
+      subst (λ xs. AreJoined source 0 xs (now ++ rest)) (sym (append_assoc parts (x ∷ []) more))
+      (subst (AreJoined source 0 (parts ++ x ∷ more)) (sym (append_assoc so_far found rest) ∙ ap (λ ds. ds ++ rest) (sym pushed))
+      (are.others (x ∷ more) (found ++ rest)
+      (answer, rest, is, subst (λ (n : ℕ). AreJoined source n more rest) ends joined, refl)));
+}
+
+pub at_last : (source : Text) (parts : List Part) (end : ℕ) (so_far : List SourceDescription) → AreSoFar source parts end so_far
+    → AreJoined source 0 parts so_far
+at_last source parts end so_far are =
+    subst (λ xs. AreJoined source 0 xs so_far) (append-nil parts)
+    (subst (AreJoined source 0 (parts ++ [])) (append-nil so_far) (are.others [] [] refl))

@@ -48,7 +48,7 @@ fn push_all(parts: &mut Vec<Part>, candidates: &[CandidateLiteral]) -> Result<()
 }
 
 /// These literals and descriptions, by where they begin. An `Err` says that memory ran out.
-#[tactic(auto, using(crate::proofs::JoinLemmas::step, crate::proofs::JoinLemmas::last_step))]
+#[tactic(auto, using(crate::proofs::JoinLemmas::none_placed, crate::proofs::JoinLemmas::one_placed))]
 pub fn parts_of(
     alloc: Global,
     candidates: &[CandidateLiteral],
