@@ -21,6 +21,9 @@ pub mod NamedCallLemmas
 pub mod LayoutLemmas
 pub mod TakenLemmas
 pub mod JoinLemmas
+pub mod GivenLemmas
+pub mod MergeLemmas
+pub mod ExampleLemmas
 pub mod LookLemmas
 pub mod DocTestLemmas
 pub mod FoundLemmas

@@ -17,7 +17,7 @@ use Rattle.timefd_lint_scan.specs.declared.version.VersionPosition.{VersionPosit
 use Rattle.timefd_lint_scan.specs.declared.version.VersionPosition.TheVariants.{Digit, Unsaid, Call, Elsewhere}
 use Rattle.timefd_lint_scan.specs.After.{after_run}
 use Rattle.timefd_lint_scan.specs.Bytes.{Text, class_test}
-use Rattle.timefd_lint_scan.specs.DocTests.{TestCode, tests_in}
+use Rattle.timefd_lint_scan.specs.DocTests.{TestCode, test_of, tests_in}
 use Rattle.timefd_lint_scan.specs.Found.{IsDescribed, begun_after, end_after}
 use Rattle.timefd_lint_scan.specs.Gathered.{AreComments}
 use Rattle.timefd_lint_scan.specs.Literals.{cut}
@@ -96,7 +96,7 @@ abbrev pub IsSeenExample : List OwnCall → SeenExample → Type 0
 IsSeenExample own s = IsLookOfCode s.test.code.items own s.look
 
 abbrev pub example_of : SeenExample → TestCode
-example_of s = record { start = s.test.start; code = s.test.code.items }
+example_of s = test_of s.test
 
 -- These are the examples in the doc comments of a source, in order, and what is seen in each, with these calls of its project.
 pub record AreSeenExamples (source : Text) (own : List OwnCall) (seen : List SeenExample) : Type 0 where
@@ -122,9 +122,8 @@ is_below limit position = nat_lt position limit
 
 -- literals of examples and descriptions of the source itself, by where they begin
 abbrev pub by_position : List CandidateLiteral → List SourceDescription → List Part
-by_position [] [] = []
-by_position [] (d ∷ ds) = OfSource d ∷ by_position [] ds
-by_position (c ∷ cs) [] = OfExample c ∷ by_position cs []
+by_position [] ds = map OfSource ds
+by_position (c ∷ cs) [] = map OfExample (c ∷ cs)
 by_position (c ∷ cs) (d ∷ ds) =
     if begins_before d.piece.start c then OfExample c ∷ by_position cs (d ∷ ds) else OfSource d ∷ by_position (c ∷ cs) ds
 
@@ -143,9 +142,8 @@ AreJoined source from (x ∷ xs) all =
 
 -- two ascending lists as one
 abbrev pub merged : List ℕ → List ℕ → List ℕ
-merged [] [] = []
-merged [] (y ∷ ys) = y ∷ merged [] ys
-merged (x ∷ xs) [] = x ∷ merged xs []
+merged [] ys = ys
+merged (x ∷ xs) [] = x ∷ xs
 merged (x ∷ xs) (y ∷ ys) = if is_below x y then y ∷ merged (x ∷ xs) ys else x ∷ merged xs (y ∷ ys)
 
 -- What is seen in a source by itself and in its examples, as one: the descriptions, and what can't be checked. A description in

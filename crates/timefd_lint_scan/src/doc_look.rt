@@ -27,7 +27,7 @@ fn together(
     alone: Look,
     examples: &[SeenExample],
 ) -> Result<Look, AllocError>
-    ensures { IfOk result (IsTogether source.now alone.entry examples.now) }
+    ensures { IfOk result (IsTogether source.now alone examples.now) }
 {
     let Look {
         descriptions,
@@ -36,11 +36,11 @@ fn together(
     } = alone;
     let shorts = shorts_of(alloc, examples)?;
     let parts = parts_of(alloc, &shorts, descriptions)?;
-    let unread = merged(alloc, &calls_of(alloc, examples)?, &longs_of(alloc, examples)?)?;
+    let unread = merged(alloc, calls_of(alloc, examples)?, &longs_of(alloc, examples)?)?;
     Ok(Look {
         descriptions: described_parts(alloc, source, parts)?,
-        calls: merged(alloc, &calls, &unread)?,
-        comments: merged(alloc, &comments, &comments_of(alloc, examples)?)?,
+        calls: merged(alloc, calls, &unread)?,
+        comments: merged(alloc, comments, &comments_of(alloc, examples)?)?,
     })
 }
 

@@ -34,7 +34,7 @@ fn seen_in(
     tests: Vec<DocTest>,
     own: &[OwnCall],
 ) -> Result<Vec<SeenExample>, AllocError>
-    ensures { IfOk result (λ seen. AreSeenIn own.now tests.entry.items seen.items) }
+    ensures { IfOk result (λ seen. AreSeenIn own.now tests.items seen.items) }
 {
     let mut seen = Vec::new(alloc);
     for test in tests {

@@ -58,8 +58,10 @@ fn push_shorts(
 ) -> Result<(), AllocError>
     ensures { OnOk result (candidates.new.items ≡ candidates.old.items ++ spec.short_in example.now) }
 {
-    for description in &example.look.descriptions {
+    let mut rest: &[SourceDescription] = &example.look.descriptions;
+    'descriptions: while let [description, after @ ..] = rest {
         push_short(candidates, &example.test, description)?;
+        rest = after;
     }
     Ok(())
 }
@@ -67,8 +69,10 @@ fn push_shorts(
 fn push_longs(positions: &mut Vec<usize>, example: &SeenExample) -> Result<(), AllocError>
     ensures { OnOk result (positions.new.items ≡ positions.old.items ++ spec.long_in example.now) }
 {
-    for description in &example.look.descriptions {
+    let mut rest: &[SourceDescription] = &example.look.descriptions;
+    'descriptions: while let [description, after @ ..] = rest {
         push_long(positions, &example.test, description)?;
+        rest = after;
     }
     Ok(())
 }
@@ -81,8 +85,10 @@ pub fn shorts_of(
     ensures { IfOk result (λ candidates. candidates.items ≡ flat_map spec.short_in examples.now) }
 {
     let mut candidates = Vec::new(alloc);
-    for example in examples {
+    let mut rest = examples;
+    'examples: while let [example, after @ ..] = rest {
         push_shorts(&mut candidates, example)?;
+        rest = after;
     }
     Ok(candidates)
 }
@@ -92,8 +98,10 @@ pub fn longs_of(alloc: Global, examples: &[SeenExample]) -> Result<Vec<usize>, A
     ensures { IfOk result (λ positions. positions.items ≡ flat_map spec.long_in examples.now) }
 {
     let mut positions = Vec::new(alloc);
-    for example in examples {
+    let mut rest = examples;
+    'examples: while let [example, after @ ..] = rest {
         push_longs(&mut positions, example)?;
+        rest = after;
     }
     Ok(positions)
 }
@@ -103,8 +111,10 @@ pub fn calls_of(alloc: Global, examples: &[SeenExample]) -> Result<Vec<usize>, A
     ensures { IfOk result (λ positions. positions.items ≡ flat_map spec.calls_in examples.now) }
 {
     let mut positions = Vec::new(alloc);
-    for example in examples {
+    let mut rest = examples;
+    'examples: while let [example, after @ ..] = rest {
         push_moved(&mut positions, example.test.start, &example.look.calls)?;
+        rest = after;
     }
     Ok(positions)
 }
@@ -115,8 +125,10 @@ pub fn comments_of(alloc: Global, examples: &[SeenExample]) -> Result<Vec<usize>
     ensures { IfOk result (λ positions. positions.items ≡ flat_map spec.comments_in examples.now) }
 {
     let mut positions = Vec::new(alloc);
-    for example in examples {
+    let mut rest = examples;
+    'examples: while let [example, after @ ..] = rest {
         push_moved(&mut positions, example.test.start, &example.look.comments)?;
+        rest = after;
     }
     Ok(positions)
 }

@@ -48,12 +48,13 @@ fn push_all(parts: &mut Vec<Part>, candidates: &[CandidateLiteral]) -> Result<()
 }
 
 /// These literals and descriptions, by where they begin. An `Err` says that memory ran out.
+#[tactic(auto, using(crate::proofs::JoinLemmas::none_placed, crate::proofs::JoinLemmas::one_placed))]
 pub fn parts_of(
     alloc: Global,
     candidates: &[CandidateLiteral],
     own: Vec<SourceDescription>,
 ) -> Result<Vec<Part>, AllocError>
-    ensures { IfOk result (λ parts. parts.items ≡ by_position candidates.now own.entry.items) }
+    ensures { IfOk result (λ parts. parts.items ≡ by_position candidates.now own.items) }
 {
     let mut parts = Vec::new(alloc);
     let mut left = candidates;
@@ -70,7 +71,7 @@ fn described_part(
     source: &str,
     part: Part,
 ) -> Result<Option<SourceDescription>, AllocError>
-    ensures { IfOk result (IsEither source.now part.entry) }
+    ensures { IfOk result (IsEither source.now part) }
 {
     match part {
         Part::OfExample(candidate) => described_any(alloc, source, Some(candidate)),
@@ -79,12 +80,13 @@ fn described_part(
 }
 
 /// The descriptions among these, without those that begin inside of another one. An `Err` says that memory ran out.
+#[tactic(auto, using(crate::proofs::JoinLemmas::at_first, crate::proofs::JoinLemmas::one_described, crate::proofs::JoinLemmas::at_last))]
 pub fn described_parts(
     alloc: Global,
     source: &str,
     parts: Vec<Part>,
 ) -> Result<Vec<SourceDescription>, AllocError>
-    ensures { IfOk result (λ found. AreJoined source.now 0 parts.entry.items found.items) }
+    ensures { IfOk result (λ found. AreJoined source.now 0 parts.items found.items) }
 {
     let mut descriptions = Vec::new(alloc);
     let mut end = 0;

@@ -26,14 +26,15 @@ fn push_below<'a>(
 }
 
 /// Two ascending lists as one. An `Err` says that memory ran out.
-pub fn merged(alloc: Global, one: &[usize], other: &[usize]) -> Result<Vec<usize>, AllocError>
-    ensures { IfOk result (λ all. all.items ≡ spec.merged one.now other.now) }
+#[tactic(auto, using(crate::proofs::MergeLemmas::at_first, crate::proofs::MergeLemmas::step))]
+pub fn merged(alloc: Global, one: Vec<usize>, other: &[usize]) -> Result<Vec<usize>, AllocError>
+    ensures { IfOk result (λ all. all.items ≡ spec.merged one.items other.now) }
 {
     let mut all = Vec::new(alloc);
     let mut left = other;
     for at in one {
-        left = push_below(&mut all, left, *at)?;
-        all.push(*at)?;
+        left = push_below(&mut all, left, at)?;
+        all.push(at)?;
     }
     all.extend_from_slice(left)?;
     Ok(all)
