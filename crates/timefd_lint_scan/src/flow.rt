@@ -171,11 +171,11 @@ pub fn entered(
     }
 }
 
-/// Functions and methods that pass on the text they get: translated, or instead of one that is missing.
+/// Functions and methods that pass on the text they get: translated, instead of one that is missing, or as another type.
 fn is_handing_on(name: &[u8]) -> bool
     ensures { result ≡ spec.is_handing_on name.now }
 {
-    is(name, "gettext") || is(name, "unwrap_or") || is(name, "from")
+    is(name, "gettext") || is(name, "unwrap_or") || is(name, "from") || is(name, "Borrowed")
 }
 
 /// Whether the round bracket that a token opens only groups a value, or is a call that passes it on.
