@@ -29,13 +29,20 @@ hands_on method =
 abbrev pub ends : Text → Bool
 ends text = is_closing text || bytes_eq text (codes ",") || bytes_eq text (codes ";")
 
--- A value may end before a closing bracket, `,` and `;`, or go on with `.as_ref()`.
+-- The value of a token is only said to be a text, and ends then: `as &str`.
+abbrev pub is_said_a_text : Text → List PlacedToken → ℕ → Bool
+is_said_a_text source ps i =
+    bytes_eq (text_after source ps i 1) (codes "as") && bytes_eq (text_after source ps i 2) (codes "&")
+    && bytes_eq (text_after source ps i 3) (codes "str") && ends (text_after source ps i 4)
+
+-- A value may end before a closing bracket, `,` and `;`, or go on with `.as_ref()` or `as &str`.
 abbrev pub ends_value : Text → List PlacedToken → ℕ → Bool
 ends_value source ps i =
     ends (text_after source ps i 1)
     || (bytes_eq (text_after source ps i 1) (codes ".") && hands_on (text_after source ps i 2)
     && bytes_eq (text_after source ps i 3) (codes "(") && bytes_eq (text_after source ps i 4) (codes ")")
     && ends (text_after source ps i 5))
+    || is_said_a_text source ps i
 
 -- where a value begins that may be borrowed, `&F`, or dereferenced, `*f`
 abbrev pub borrowed_at : Text → List PlacedToken → ℕ → ℕ

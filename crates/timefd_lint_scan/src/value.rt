@@ -55,7 +55,17 @@ fn ends(text: &[u8]) -> bool
     is_closing(text) || is(text, ",") || is(text, ";")
 }
 
-/// Whether a value may end with a token, or with a method that passes it on.
+/// Whether a token's value is only said to be a text, and ends then: `as &str`.
+fn is_said_a_text(source: &[u8], pieces: &[KeptToken], index: usize) -> bool
+    ensures { result ≡ spec.is_said_a_text source.now pieces.now index }
+{
+    is(text_after(source, pieces, index, 1), "as")
+        && is(text_after(source, pieces, index, 2), "&")
+        && is(text_after(source, pieces, index, 3), "str")
+        && ends(text_after(source, pieces, index, 4))
+}
+
+/// Whether a value may end with a token, with a method that passes it on, or with `as &str`.
 pub fn ends_value(source: &[u8], pieces: &[KeptToken], index: usize) -> bool
     ensures { result ≡ spec.ends_value source.now pieces.now index }
 {
@@ -66,6 +76,7 @@ pub fn ends_value(source: &[u8], pieces: &[KeptToken], index: usize) -> bool
             && is(text_after(source, pieces, index, 3), "(")
             && is(text_after(source, pieces, index, 4), ")")
             && ends(text_after(source, pieces, index, 5)))
+        || is_said_a_text(source, pieces, index)
 }
 
 /// The index of a value's first token: the `&` or `*` before it, if there is one.
