@@ -10,7 +10,13 @@ is_operator text =
     bytes_eq text (codes "=") || bytes_eq text (codes "!") || bytes_eq text (codes "<")
     || bytes_eq text (codes ">") || bytes_eq text (codes "+") || bytes_eq text (codes "|")
 
--- A value may begin after an opening bracket, `,`, `;`, `}`, `in`, `=>` and `=`.
+-- A token is the first one in the closure of `unwrap_or_else(|| ..)`.
+abbrev pub begins_fallback : Text → List PlacedToken → ℕ → Bool
+begins_fallback source ps i =
+    bytes_eq (text_before source ps i 1) (codes "|") && bytes_eq (text_before source ps i 2) (codes "|")
+    && bytes_eq (text_before source ps i 3) (codes "(") && bytes_eq (text_before source ps i 4) (codes "unwrap_or_else")
+
+-- A value may begin after an opening bracket, `,`, `;`, `}`, `in`, `=>`, `=` and `unwrap_or_else(||`.
 abbrev pub begins_value : Text → List PlacedToken → ℕ → Bool
 begins_value source ps i =
     is_opening (text_before source ps i 1) || bytes_eq (text_before source ps i 1) (codes ",")
@@ -18,6 +24,7 @@ begins_value source ps i =
     || bytes_eq (text_before source ps i 1) (codes "in")
     || (bytes_eq (text_before source ps i 1) (codes ">") && bytes_eq (text_before source ps i 2) (codes "="))
     || (bytes_eq (text_before source ps i 1) (codes "=") && not (is_operator (text_before source ps i 2)))
+    || begins_fallback source ps i
 
 -- These methods pass a text on as it is.
 abbrev pub hands_on : Text → Bool

@@ -175,7 +175,11 @@ pub fn entered(
 fn is_handing_on(name: &[u8]) -> bool
     ensures { result ≡ spec.is_handing_on name.now }
 {
-    is(name, "gettext") || is(name, "unwrap_or") || is(name, "from") || is(name, "Borrowed")
+    is(name, "gettext")
+        || is(name, "unwrap_or")
+        || is(name, "unwrap_or_else")
+        || is(name, "from")
+        || is(name, "Borrowed")
 }
 
 /// Whether the round bracket that a token opens only groups a value, or is a call that passes it on.

@@ -19,8 +19,18 @@ pub fn is_operator(text: &[u8]) -> bool
         || is(text, "|")
 }
 
-/// Whether a value may begin at a token: an opening bracket, a comma, an arrow, an equals sign, `in`, or the
-/// end of a statement precedes it.
+/// Whether a token is the first one in the closure of `unwrap_or_else(|| ..)`.
+fn begins_fallback(source: &[u8], pieces: &[KeptToken], index: usize) -> bool
+    ensures { result ≡ spec.begins_fallback source.now pieces.now index }
+{
+    is(text_before(source, pieces, index, 1), "|")
+        && is(text_before(source, pieces, index, 2), "|")
+        && is(text_before(source, pieces, index, 3), "(")
+        && is(text_before(source, pieces, index, 4), "unwrap_or_else")
+}
+
+/// Whether a value may begin at a token: an opening bracket, a comma, an arrow, an equals sign, `in`, the end of a
+/// statement, or `unwrap_or_else(||` precedes it.
 fn begins_value(source: &[u8], pieces: &[KeptToken], index: usize) -> bool
     ensures { result ≡ spec.begins_value source.now pieces.now index }
 {
@@ -33,6 +43,7 @@ fn begins_value(source: &[u8], pieces: &[KeptToken], index: usize) -> bool
         || is(before, "in")
         || (is(before, ">") && is(farther, "="))
         || (is(before, "=") && !is_operator(farther))
+        || begins_fallback(source, pieces, index)
 }
 
 /// Whether a method passes a text on as it is.
