@@ -212,7 +212,7 @@ fn is_array(source: &[u8], pieces: &[KeptToken], index: usize) -> bool
 }
 
 /// Whether the value of the bracket that a token opens is one of the values inside.
-fn is_around_values(source: &[u8], pieces: &[KeptToken], index: usize) -> bool
+pub fn is_around_values(source: &[u8], pieces: &[KeptToken], index: usize) -> bool
     ensures { result ≡ spec.is_around_values source.now pieces.now index }
 {
     let text = text_at(source, pieces, index);
