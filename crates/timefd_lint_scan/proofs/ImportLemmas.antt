@@ -1,5 +1,5 @@
 -- Aliases that a source declares, and where their blocks end.
-use Rattle.std.proofs.Common.{ℕ, ◌≡◌, ◌∙◌, ◌++◌, ◌-◌, ◌<◌, ◌≤◌, false, true, List, [], ◌∷◌, ap, arith, drop, get_or, length, refl, reverse, subst, sym, take}
+use Rattle.std.proofs.Common.{ℕ, ◌≡◌, ◌∙◌, ◌++◌, ◌-◌, ◌<◌, ◌≤◌, false, true, List, [], ◌∷◌, ap, append_assoc, arith, drop, get_or, length, refl, reverse, subst, sym, take}
 use Rattle.std.proofs.lemmas.List.{drop_all, reverse-append, take_all}
 use Rattle.std.proofs.lemmas.Option.{slice_get-get_or}
 use Rattle.std.proofs.lemmas.Slice.Eq.{bytes_eq-Decides}
@@ -8,7 +8,7 @@ use Rattle.std.specs.Prelude.{Option, Some, None, bytes_eq, codes}
 use Rattle.timefd_lint_scan.specs.declared.alias.Alias.{Alias}
 use Rattle.timefd_lint_scan.specs.declared.own_call.OwnCall.{OwnCall}
 use Rattle.timefd_lint_scan.specs.declared.piece.PlacedToken.{PlacedToken}
-use Rattle.timefd_lint_scan.specs.Aliases.{IsUntil, alias_at, aliases_in, block_end, statement_end}
+use Rattle.timefd_lint_scan.specs.Aliases.{IsUntil, alias_at, aliases_in, block_end, self_at, statement_end}
 use Rattle.timefd_lint_scan.specs.Bytes.{Text}
 use Rattle.timefd_lint_scan.specs.Words.{text_of}
 
@@ -52,15 +52,24 @@ reverse_option : (found : Option Alias) → reverse (option_to_list found) ≡ o
 reverse_option None = refl
 reverse_option (Some alias) = refl
 
-pub one_more : (source : Text) (own : List OwnCall) (ps : List PlacedToken) (n left : ℕ) (p : PlacedToken) (found : Option Alias) (old now : List Alias)
-    → drop n ps ≡ p ∷ drop left ps → found ≡ alias_at source own p (drop left ps) → now ≡ old ++ option_to_list found
-    → reverse old ≡ aliases_in source own (drop left ps) → reverse now ≡ aliases_in source own (drop n ps)
-one_more source own ps n left p found old now split is pushed so_far =
+pushed_option : (found : Option Alias) (old now : List Alias) → now ≡ old ++ option_to_list found
+    → reverse now ≡ option_to_list found ++ reverse old
+pushed_option found old now pushed =
     ap reverse pushed
-    ∙ (reverse-append old (option_to_list found)
-    ∙ (ap (λ l. l ++ reverse old) (reverse_option found)
-    ∙ (ap (λ l. option_to_list found ++ l) so_far
-    ∙ (ap (λ o. option_to_list o ++ aliases_in source own (drop left ps)) is ∙ ap (aliases_in source own) (sym split)))))
+    ∙ (reverse-append old (option_to_list found) ∙ ap (λ l. l ++ reverse old) (reverse_option found))
+
+pub one_more : (source : Text) (own : List OwnCall) (ps : List PlacedToken) (n left : ℕ) (p : PlacedToken) (itself found : Option Alias) (old between now : List Alias)
+    → drop n ps ≡ p ∷ drop left ps → itself ≡ self_at source own p (drop left ps) → between ≡ old ++ option_to_list itself
+    → found ≡ alias_at source own p (drop left ps) → now ≡ between ++ option_to_list found
+    → reverse old ≡ aliases_in source own (drop left ps) → reverse now ≡ aliases_in source own (drop n ps)
+one_more source own ps n left p itself found old between now split is first has second so_far =
+    pushed_option found between now second
+    ∙ (ap (λ l. option_to_list found ++ l) (pushed_option itself old between first)
+    ∙ (sym (append_assoc (option_to_list found) (option_to_list itself) (reverse old))
+    ∙ (ap (λ l. option_to_list found ++ option_to_list itself ++ l) so_far
+    ∙ (ap (λ o. option_to_list o ++ option_to_list itself ++ aliases_in source own (drop left ps)) has
+    ∙ (ap (λ o. option_to_list (alias_at source own p (drop left ps)) ++ option_to_list o ++ aliases_in source own (drop left ps)) is
+    ∙ ap (aliases_in source own) (sym split))))))
 
 any_other : (ps : List PlacedToken) (n : ℕ) (d other : PlacedToken) → n < length ps → get_or ps n d ≡ get_or ps n other
 any_other ps n d other below = cc (slice_get-get_or ps n d below, slice_get-get_or ps n other below)

@@ -105,17 +105,48 @@ abbrev pub parse_beside : Text → PlacedToken → List PlacedToken → Option A
 parse_beside source p after =
     if bytes_eq (text_of source p) (codes "format_description") then parse_after source after else None
 
+-- An alias matters for a name: for a known one, and for those of a project's calls.
+abbrev pub is_imported : List OwnCall → Text → Bool
+is_imported own name = is_known name || is_of_own own name
+
 -- the alias that is declared at a token, which these follow
 abbrev pub alias_at : Text → List OwnCall → PlacedToken → List PlacedToken → Option Alias
 alias_at source own p after =
-    if is_known (text_of source p) || is_of_own own (text_of source p) then
+    if is_imported own (text_of source p) then
     option_or (renamed source p after) (parse_beside source p after)
     else None
+
+-- `{self as name, ..}`, but not in a list in that one
+abbrev pub self_in_list : Text → PlacedToken → List PlacedToken → Option Alias
+self_in_list source original [] = None
+self_in_list source original (p ∷ ps) =
+    if bytes_eq (text_of source p) (codes "}") || bytes_eq (text_of source p) (codes "{") then None
+    else if bytes_eq (text_of source p) (codes "self") then renamed source original ps
+    else self_in_list source original ps
+
+abbrev pub self_after_sign : Text → PlacedToken → PlacedToken → List PlacedToken → Option Alias
+self_after_sign source original next after =
+    if bytes_eq (text_of source next) (codes "{") then self_in_list source original after else None
+
+-- `::{self as name, ..}`, after a module's name
+abbrev pub self_after : Text → PlacedToken → List PlacedToken → Option Alias
+self_after source original [] = None
+self_after source original (first ∷ []) = None
+self_after source original (first ∷ second ∷ []) = None
+self_after source original (first ∷ second ∷ next ∷ after) =
+    if bytes_eq (text_of source first) (codes ":") && bytes_eq (text_of source second) (codes ":") then
+    self_after_sign source original next after
+    else None
+
+-- the alias of the module that a token names, if it is declared in the list of what is imported from it
+abbrev pub self_at : Text → List OwnCall → PlacedToken → List PlacedToken → Option Alias
+self_at source own p after = if is_imported own (text_of source p) then self_after source p after else None
 
 -- the aliases of a source, in order
 abbrev pub aliases_in : Text → List OwnCall → List PlacedToken → List Alias
 aliases_in source own [] = []
-aliases_in source own (p ∷ ps) = option_to_list (alias_at source own p ps) ++ aliases_in source own ps
+aliases_in source own (p ∷ ps) =
+    option_to_list (alias_at source own p ps) ++ option_to_list (self_at source own p ps) ++ aliases_in source own ps
 
 abbrev pub is_named_so : Text → Alias → Text → ℕ → Bool
 is_named_so source alias name position =

@@ -121,6 +121,17 @@ abbrev pub is_after_path : Text → List PlacedToken → ℕ → Bool
 is_after_path source ps i =
     bytes_eq (text_before source ps i 2) (codes ":") && bytes_eq (text_before source ps i 3) (codes ":")
 
+-- `<NaiveDate>::format(`, but not `Wrapped::<NaiveDate>::format(`
+abbrev pub is_after_type : Text → List PlacedToken → ℕ → Bool
+is_after_type source ps i =
+    bytes_eq (text_before source ps i 4) (codes ">") && bytes_eq (text_before source ps i 6) (codes "<")
+    && not (bytes_eq (text_before source ps i 7) (codes ":"))
+
+-- the type or module before `::` and a call's name
+abbrev pub path_before : Text → List PlacedToken → ℕ → Text
+path_before source ps i =
+    if is_after_type source ps i then text_before source ps i 5 else text_before source ps i 4
+
 -- the call whose arguments are in the bracket that this token opens, with these aliases declared
 abbrev pub call_of : Text → List PlacedToken → List Alias → ℕ → Call
 call_of source ps aliases i =
@@ -128,6 +139,6 @@ call_of source ps aliases i =
     macro_named (real_name source (text_before source ps i 2) (position_at ps i) aliases)
     else if bytes_eq (text_before source ps i 1) (codes ">") then call_with_version source ps aliases i
     else if is_after_path source ps i then
-    call_in_module (text_before source ps i 1) (real_name source (text_before source ps i 4) (position_at ps i) aliases)
+    call_in_module (text_before source ps i 1) (real_name source (path_before source ps i) (position_at ps i) aliases)
     else if bytes_eq (text_before source ps i 2) (codes ".") then method_named (text_before source ps i 1)
     else bare_call source (text_before source ps i 1) (position_at ps i) aliases

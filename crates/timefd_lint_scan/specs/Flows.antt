@@ -79,10 +79,11 @@ entered source ps us i frame =
     else if bytes_eq (text_at source ps i) (codes "=") then after_equals_sign source ps us i frame
     else after_word source ps us i frame
 
--- Functions and methods that pass on the text they get: translated, or instead of one that is missing.
+-- Functions and methods that pass on the text they get: translated, instead of one that is missing, or as another type.
 abbrev pub is_handing_on : Text → Bool
 is_handing_on name =
-    bytes_eq name (codes "gettext") || bytes_eq name (codes "unwrap_or") || bytes_eq name (codes "from")
+    bytes_eq name (codes "gettext") || bytes_eq name (codes "unwrap_or") || bytes_eq name (codes "unwrap_or_else")
+    || bytes_eq name (codes "from") || bytes_eq name (codes "Borrowed")
 
 -- The round bracket that a token opens only groups a value, or is a call that passes it on.
 abbrev pub is_group : Text → List PlacedToken → ℕ → Bool

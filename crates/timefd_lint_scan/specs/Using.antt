@@ -7,13 +7,14 @@ use Rattle.timefd_lint_scan.specs.declared.calls.OpenBracket.{OpenBracket}
 use Rattle.timefd_lint_scan.specs.declared.own_call.OwnCall.{OwnCall}
 use Rattle.timefd_lint_scan.specs.declared.piece.PlacedToken.{PlacedToken}
 use Rattle.timefd_lint_scan.specs.declared.known.Known.{Known}
+use Rattle.timefd_lint_scan.specs.declared.token.Token.{Token}
 use Rattle.timefd_lint_scan.specs.declared.uses.Use.{Use}
 use Rattle.timefd_lint_scan.specs.declared.uses.Way.{Way}
 use Rattle.timefd_lint_scan.specs.declared.uses.Way.TheVariants.{Value, Call, Part}
 use Rattle.timefd_lint_scan.specs.Bytes.{Text}
 use Rattle.timefd_lint_scan.specs.Flows.{outermost, pending_of}
 use Rattle.timefd_lint_scan.specs.Frames.{innermost, passed}
-use Rattle.timefd_lint_scan.specs.UsedParts.{is_part}
+use Rattle.timefd_lint_scan.specs.UsedParts.{is_changed, is_literal, is_part}
 use Rattle.timefd_lint_scan.specs.Uses.{known_by_name}
 use Rattle.timefd_lint_scan.specs.Values.{ends_value, is_begun}
 use Rattle.timefd_lint_scan.specs.Words.{is_word_token, text_at, text_before, text_after}
@@ -50,6 +51,13 @@ or_part (Some way) is_part = Some way
 abbrev pub way_at : Text → List PlacedToken → ℕ → Option Way
 way_at source ps i = or_part (way_of source ps i) (is_part source ps i)
 
+-- how a token is used: a name, or a literal that a value begins with
+abbrev pub way_by : Text → List PlacedToken → ℕ → Token → Option Way
+way_by source ps i token =
+    if is_word_token token then way_at source ps i
+    else if is_literal token && is_changed source ps i then Some Part
+    else None
+
 abbrev pub use_of : PlacedToken → Option Way → Known → Option Use
 use_of name None known = None
 use_of name (Some way) known =
@@ -57,8 +65,7 @@ use_of name (Some way) known =
 
 abbrev pub use_reported : Text → List PlacedToken → ℕ → PlacedToken → Option Known → Option Use
 use_reported source ps i p None = None
-use_reported source ps i p (Some known) =
-    if is_word_token p.token then use_of p (way_at source ps i) known else None
+use_reported source ps i p (Some known) = use_of p (way_by source ps i p.token) known
 
 -- the use of the name at a token, with this bracket open
 abbrev pub use_at : Text → List PlacedToken → ℕ → PlacedToken → Option OpenBracket → Option Use

@@ -10,7 +10,13 @@ is_operator text =
     bytes_eq text (codes "=") || bytes_eq text (codes "!") || bytes_eq text (codes "<")
     || bytes_eq text (codes ">") || bytes_eq text (codes "+") || bytes_eq text (codes "|")
 
--- A value may begin after an opening bracket, `,`, `;`, `}`, `in`, `=>` and `=`.
+-- A token is the first one in the closure of `unwrap_or_else(|| ..)`.
+abbrev pub begins_fallback : Text → List PlacedToken → ℕ → Bool
+begins_fallback source ps i =
+    bytes_eq (text_before source ps i 1) (codes "|") && bytes_eq (text_before source ps i 2) (codes "|")
+    && bytes_eq (text_before source ps i 3) (codes "(") && bytes_eq (text_before source ps i 4) (codes "unwrap_or_else")
+
+-- A value may begin after an opening bracket, `,`, `;`, `}`, `in`, `=>`, `=` and `unwrap_or_else(||`.
 abbrev pub begins_value : Text → List PlacedToken → ℕ → Bool
 begins_value source ps i =
     is_opening (text_before source ps i 1) || bytes_eq (text_before source ps i 1) (codes ",")
@@ -18,6 +24,7 @@ begins_value source ps i =
     || bytes_eq (text_before source ps i 1) (codes "in")
     || (bytes_eq (text_before source ps i 1) (codes ">") && bytes_eq (text_before source ps i 2) (codes "="))
     || (bytes_eq (text_before source ps i 1) (codes "=") && not (is_operator (text_before source ps i 2)))
+    || begins_fallback source ps i
 
 -- These methods pass a text on as it is.
 abbrev pub hands_on : Text → Bool
@@ -29,13 +36,20 @@ hands_on method =
 abbrev pub ends : Text → Bool
 ends text = is_closing text || bytes_eq text (codes ",") || bytes_eq text (codes ";")
 
--- A value may end before a closing bracket, `,` and `;`, or go on with `.as_ref()`.
+-- The value of a token is only said to be a text, and ends then: `as &str`.
+abbrev pub is_said_a_text : Text → List PlacedToken → ℕ → Bool
+is_said_a_text source ps i =
+    bytes_eq (text_after source ps i 1) (codes "as") && bytes_eq (text_after source ps i 2) (codes "&")
+    && bytes_eq (text_after source ps i 3) (codes "str") && ends (text_after source ps i 4)
+
+-- A value may end before a closing bracket, `,` and `;`, or go on with `.as_ref()` or `as &str`.
 abbrev pub ends_value : Text → List PlacedToken → ℕ → Bool
 ends_value source ps i =
     ends (text_after source ps i 1)
     || (bytes_eq (text_after source ps i 1) (codes ".") && hands_on (text_after source ps i 2)
     && bytes_eq (text_after source ps i 3) (codes "(") && bytes_eq (text_after source ps i 4) (codes ")")
     && ends (text_after source ps i 5))
+    || is_said_a_text source ps i
 
 -- where a value begins that may be borrowed, `&F`, or dereferenced, `*f`
 abbrev pub borrowed_at : Text → List PlacedToken → ℕ → ℕ

@@ -5,6 +5,7 @@ ghost use Rattle.timefd_lint_scan.specs.Aliases as spec;
 
 use crate::dialect::is;
 use crate::kept::KeptToken;
+use crate::own_call::{OwnCall, is_of_own};
 use crate::piece::PlacedToken;
 use crate::word::{is_closing, is_opening, text_of};
 
@@ -17,6 +18,27 @@ pub struct Alias {
     pub original: PlacedToken,
     /// Where the block in which it is valid ends, as a byte index.
     pub until: usize,
+}
+
+/// Whether this is a name that an alias matters for: the module and the macro of `time`, its
+/// functions, and types of other libraries.
+fn is_known(name: &[u8]) -> bool
+    ensures { result ≡ spec.is_known name.now }
+{
+    is(name, "format_description")
+        || is(name, "parse_borrowed")
+        || is(name, "parse_owned")
+        || is(name, "parse_strftime_borrowed")
+        || is(name, "parse_strftime_owned")
+        || is(name, "StrftimeItems")
+        || is(name, "strtime")
+}
+
+/// Whether an alias matters for a name: for a known one, and for those of a project's calls.
+pub fn is_imported(own: &[OwnCall], name: &[u8]) -> bool
+    ensures { result ≡ spec.is_imported own.now name.now }
+{
+    is_known(name) || is_of_own(own, name)
 }
 
 /// The tokens after the first one that is this sign; empty if there is no such token.

@@ -59,7 +59,7 @@ pub fn call_of(source: &[u8], pieces: &[KeptToken], aliases: Aliases<'_>, openin
     } else if is(name, ">") {
         call_with_version(source, pieces, aliases, opening)
     } else if is_after_path(source, pieces, opening) {
-        let path = text_before(source, pieces, opening, 4);
+        let path = path_before(source, pieces, opening);
         call_in_module(name, real_name(source, aliases, path, position))
     } else if is(text_before(source, pieces, opening, 2), ".") {
         method_named(name)
@@ -95,6 +95,26 @@ fn is_after_path(source: &[u8], pieces: &[KeptToken], opening: usize) -> bool
 {
     is(text_before(source, pieces, opening, 2), ":")
         && is(text_before(source, pieces, opening, 3), ":")
+}
+
+/// Whether a type in brackets is before `::` and a call's name: `<NaiveDate>::format(`. That of a turbofish isn't one.
+fn is_after_type(source: &[u8], pieces: &[KeptToken], opening: usize) -> bool
+    ensures { result ≡ spec.is_after_type source.now pieces.now opening }
+{
+    is(text_before(source, pieces, opening, 4), ">")
+        && is(text_before(source, pieces, opening, 6), "<")
+        && !is(text_before(source, pieces, opening, 7), ":")
+}
+
+/// The type or module before `::` and a call's name.
+fn path_before<'a>(source: &'a [u8], pieces: &[KeptToken], opening: usize) -> &'a [u8]
+    ensures { result.now ≡ spec.path_before source.now pieces.now opening }
+{
+    if is_after_type(source, pieces, opening) {
+        text_before(source, pieces, opening, 5)
+    } else {
+        text_before(source, pieces, opening, 4)
+    }
 }
 
 fn macro_named(name: &[u8]) -> Call

@@ -171,11 +171,15 @@ pub fn entered(
     }
 }
 
-/// Functions and methods that pass on the text they get: translated, or instead of one that is missing.
+/// Functions and methods that pass on the text they get: translated, instead of one that is missing, or as another type.
 fn is_handing_on(name: &[u8]) -> bool
     ensures { result ≡ spec.is_handing_on name.now }
 {
-    is(name, "gettext") || is(name, "unwrap_or") || is(name, "from")
+    is(name, "gettext")
+        || is(name, "unwrap_or")
+        || is(name, "unwrap_or_else")
+        || is(name, "from")
+        || is(name, "Borrowed")
 }
 
 /// Whether the round bracket that a token opens only groups a value, or is a call that passes it on.
@@ -208,7 +212,7 @@ fn is_array(source: &[u8], pieces: &[KeptToken], index: usize) -> bool
 }
 
 /// Whether the value of the bracket that a token opens is one of the values inside.
-fn is_around_values(source: &[u8], pieces: &[KeptToken], index: usize) -> bool
+pub fn is_around_values(source: &[u8], pieces: &[KeptToken], index: usize) -> bool
     ensures { result ≡ spec.is_around_values source.now pieces.now index }
 {
     let text = text_at(source, pieces, index);

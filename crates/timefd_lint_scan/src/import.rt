@@ -6,28 +6,15 @@ ghost use Rattle.timefd_lint_scan.specs.Aliases.{IsUntil};
 ghost use Rattle.timefd_lint_scan.specs.Aliases as spec;
 ghost use Rattle.timefd_lint_scan.specs.Kept.{IsLayout};
 
-use crate::alias::{Alias, after_first, block_end};
+use crate::alias::{Alias, after_first, block_end, is_imported};
 use crate::dialect::is;
 use crate::kept::KeptToken;
 use crate::layout::{TokenLayout, end_after};
-use crate::own_call::{OwnCall, is_of_own};
+use crate::module_import::self_at;
+use crate::own_call::OwnCall;
 use crate::piece::PlacedToken;
 use crate::word::{text_at, text_of, tokens_after};
 use std::alloc::{AllocError, Global};
-
-/// Whether this is a name that an alias matters for: the module and the macro of `time`, its
-/// functions, and types of other libraries.
-fn is_known(name: &[u8]) -> bool
-    ensures { result ≡ spec.is_known name.now }
-{
-    is(name, "format_description")
-        || is(name, "parse_borrowed")
-        || is(name, "parse_owned")
-        || is(name, "parse_strftime_borrowed")
-        || is(name, "parse_strftime_owned")
-        || is(name, "StrftimeItems")
-        || is(name, "strtime")
-}
 
 /// Whether an import may end with this token, or go on after it.
 fn ends_import(text: &[u8]) -> bool
@@ -66,7 +53,7 @@ fn alias_of(
 }
 
 /// The alias `original as name`, if `as` follows the original.
-fn renamed(
+pub fn renamed(
     source: &[u8],
     original: PlacedToken,
     after: &[KeptToken],
@@ -106,8 +93,8 @@ fn imported(
     }
 }
 
-// Where the block ends that the statement of the tokens after this one is in, if that is known of all of them.
-fn passed(
+/// Where the block ends that the statement of the tokens after this one is in, if that is known of all of them.
+pub fn passed(
     source: &[u8],
     piece: PlacedToken,
     after: &[KeptToken],
@@ -195,7 +182,7 @@ fn alias_at(
     ensures { result ≡ spec.alias_at source.now own.now piece after.now }
 {
     let text = text_of(source, piece);
-    if !is_known(text) && !is_of_own(own, text) {
+    if !is_imported(own, text) {
         return None;
     }
     match renamed(source, piece, after, until) {
@@ -217,8 +204,8 @@ fn push_any(aliases: &mut Vec<Alias>, alias: Option<Alias>) -> Result<(), AllocE
     }
 }
 
-/// The aliases that a source declares, in order: of known names, and of those of these calls of its project. They are looked for from the end, since there it is known where blocks end. An `Err`
-/// says that memory ran out.
+/// The aliases that a source declares, in order: of known names, and of those of these calls of its project. They are
+/// looked for from the end, since there it is known where blocks end. An `Err` says that memory ran out.
 pub fn aliases_of(
     alloc: Global,
     source: &[u8],
@@ -236,6 +223,10 @@ pub fn aliases_of(
         left -= 1;
         let piece = pieces[left].placed();
         let after = tokens_after(pieces, left);
+        push_any(
+            &mut aliases,
+            self_at(source, own, piece, after, Some(until)),
+        )?;
         push_any(
             &mut aliases,
             alias_at(source, own, piece, after, Some(until)),

@@ -36,6 +36,7 @@ pub mod line;
 mod literal;
 mod look;
 pub mod marks;
+mod module_import;
 mod named_calls;
 mod names;
 pub mod number;

@@ -33,11 +33,12 @@ pub enum Way {
     /// It is called.
     Call,
     /// Only a part of it is used, or what another name stands for: `config.format`, `other::F`, `F[0]`,
-    /// `concat!(..)`. No text is looked for there.
+    /// `concat!(..)`. Or it is a literal that isn't the whole value: `"%F".trim()`. No text is looked for there.
     Part,
 }
 
-/// A name that is used instead of a description: a constant, a variable, or a function that is called.
+/// A name that is used instead of a description: a constant, a variable, or a function that is called. It may be a
+/// literal too, if that isn't the whole value.
 #[derive(Clone, Copy)]
 pub struct Use {
     /// The name.

@@ -18,7 +18,8 @@ use crate::known::Known;
 use crate::layout::TokenLayout;
 use crate::piece::PlacedToken;
 use crate::runs::{furthest_of, runs_of};
-use crate::used_part::is_part;
+use crate::token::Token;
+use crate::used_part::{is_changed, is_literal, is_part};
 use crate::uses::{Use, Uses, Way, known_by_name};
 use crate::value::{ends_value, is_begun};
 use crate::word::{is_word_token, text_after, text_at, text_before};
@@ -77,6 +78,19 @@ fn way_at(source: &[u8], pieces: &[KeptToken], index: usize) -> Option<Way>
     }
 }
 
+/// How a token is used: a name, or a literal that a value begins with.
+fn way_by(source: &[u8], pieces: &[KeptToken], index: usize, token: Token) -> Option<Way>
+    ensures { result ≡ spec.way_by source.now pieces.now index token }
+{
+    if is_word_token(token) {
+        way_at(source, pieces, index)
+    } else if is_literal(token) && is_changed(source, pieces, index) {
+        Some(Way::Part)
+    } else {
+        None
+    }
+}
+
 fn use_of(name: PlacedToken, way: Option<Way>, known: Known) -> Option<Use>
     ensures { result ≡ spec.use_of name way known }
 {
@@ -104,12 +118,8 @@ fn use_at(
     ensures { result ≡ spec.use_at source.now pieces.now index piece frame }
 {
     match pending_of(frame) {
-        Some(known) if is_word_token(piece.token) => use_of(
-            piece,
-            way_at(source, pieces, index),
-            known,
-        ),
-        Some(_) | None => None,
+        Some(known) => use_of(piece, way_by(source, pieces, index, piece.token), known),
+        None => None,
     }
 }
 

@@ -19,8 +19,18 @@ pub fn is_operator(text: &[u8]) -> bool
         || is(text, "|")
 }
 
-/// Whether a value may begin at a token: an opening bracket, a comma, an arrow, an equals sign, `in`, or the
-/// end of a statement precedes it.
+/// Whether a token is the first one in the closure of `unwrap_or_else(|| ..)`.
+fn begins_fallback(source: &[u8], pieces: &[KeptToken], index: usize) -> bool
+    ensures { result ≡ spec.begins_fallback source.now pieces.now index }
+{
+    is(text_before(source, pieces, index, 1), "|")
+        && is(text_before(source, pieces, index, 2), "|")
+        && is(text_before(source, pieces, index, 3), "(")
+        && is(text_before(source, pieces, index, 4), "unwrap_or_else")
+}
+
+/// Whether a value may begin at a token: an opening bracket, a comma, an arrow, an equals sign, `in`, the end of a
+/// statement, or `unwrap_or_else(||` precedes it.
 fn begins_value(source: &[u8], pieces: &[KeptToken], index: usize) -> bool
     ensures { result ≡ spec.begins_value source.now pieces.now index }
 {
@@ -33,6 +43,7 @@ fn begins_value(source: &[u8], pieces: &[KeptToken], index: usize) -> bool
         || is(before, "in")
         || (is(before, ">") && is(farther, "="))
         || (is(before, "=") && !is_operator(farther))
+        || begins_fallback(source, pieces, index)
 }
 
 /// Whether a method passes a text on as it is.
@@ -55,7 +66,17 @@ fn ends(text: &[u8]) -> bool
     is_closing(text) || is(text, ",") || is(text, ";")
 }
 
-/// Whether a value may end with a token, or with a method that passes it on.
+/// Whether a token's value is only said to be a text, and ends then: `as &str`.
+fn is_said_a_text(source: &[u8], pieces: &[KeptToken], index: usize) -> bool
+    ensures { result ≡ spec.is_said_a_text source.now pieces.now index }
+{
+    is(text_after(source, pieces, index, 1), "as")
+        && is(text_after(source, pieces, index, 2), "&")
+        && is(text_after(source, pieces, index, 3), "str")
+        && ends(text_after(source, pieces, index, 4))
+}
+
+/// Whether a value may end with a token, with a method that passes it on, or with `as &str`.
 pub fn ends_value(source: &[u8], pieces: &[KeptToken], index: usize) -> bool
     ensures { result ≡ spec.ends_value source.now pieces.now index }
 {
@@ -66,6 +87,7 @@ pub fn ends_value(source: &[u8], pieces: &[KeptToken], index: usize) -> bool
             && is(text_after(source, pieces, index, 3), "(")
             && is(text_after(source, pieces, index, 4), ")")
             && ends(text_after(source, pieces, index, 5)))
+        || is_said_a_text(source, pieces, index)
 }
 
 /// The index of a value's first token: the `&` or `*` before it, if there is one.

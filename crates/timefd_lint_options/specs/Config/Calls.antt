@@ -63,10 +63,28 @@ owned_by owner None = None
 owned_by owner (Some name) = if is_name owner && is_name name then Some (record { owner = owner; name = name }) else None
 
 -- `parse_date`, `DateBased::new`
+abbrev pub path_in : Text → Option Path
+path_in text =
+    if position_or_len is_colon text == length text then alone text
+    else owned_by (before_first is_colon text) (after_colon (after_first is_colon text))
+
+abbrev pub is_mark : ℕ → Bool
+is_mark b = b == 33
+
+-- a key without the exclamation mark at its end, if it has one; none if one is elsewhere
+abbrev pub without_mark : Text → Option Text
+without_mark key =
+    if position_or_len is_mark key == length key then Some key
+    else if length (after_first is_mark key) == 0 then Some (before_first is_mark key)
+    else None
+
+abbrev pub path_in_any : Option Text → Option Path
+path_in_any None = None
+path_in_any (Some text) = path_in text
+
+-- a path, or that of a macro: `show_date!`
 abbrev pub path_of : Text → Option Path
-path_of key =
-    if position_or_len is_colon key == length key then alone key
-    else owned_by (before_first is_colon key) (after_colon (after_first is_colon key))
+path_of key = path_in_any (without_mark key)
 
 abbrev pub digit_of : ℕ → Option ℕ
 digit_of b = if nat_le 48 b && nat_le b 57 then Some (b - 48) else None

@@ -73,13 +73,34 @@ fn owned_by<'a>(owner: &'a str, name: Option<&'a str>) -> Option<CallPath<'a>>
     }
 }
 
-// What a key names a call by: `parse_date`, `DateBased::new`. `None` if it is no such key.
+// What a path names a call by: `parse_date`, `DateBased::new`. `None` if it is no such path.
+fn path_in(path: &str) -> Option<CallPath<'_>>
+    ensures { spec.path_any result ≡ spec.path_in path.now }
+{
+    match path.split_once(':') {
+        Some((owner, rest)) => owned_by(owner, after_colon(rest)),
+        None => alone(path),
+    }
+}
+
+// A key without the exclamation mark at its end, if it has one. `None` if one is elsewhere.
+fn without_mark(key: &str) -> Option<&str>
+    ensures { option_map (λ path. path.now) result ≡ spec.without_mark key.now }
+{
+    match key.split_once('!') {
+        Some((path, rest)) if rest.is_empty() => Some(path),
+        Some(_) => None,
+        None => Some(key),
+    }
+}
+
+// What a key names a call by: a path, or that of a macro, `show_date!`. `None` if it is no such key.
 fn path_of(key: &str) -> Option<CallPath<'_>>
     ensures { spec.path_any result ≡ spec.path_of key.now }
 {
-    match key.split_once(':') {
-        Some((owner, rest)) => owned_by(owner, after_colon(rest)),
-        None => alone(key),
+    match without_mark(key) {
+        Some(path) => path_in(path),
+        None => None,
     }
 }
 

@@ -1,3 +1,6 @@
 fn main() {
-    show("[mnth]");
+    show!(text, "%Q");
+    show(text, "%Y-%Q");
+    dates::face!["[mnth]"];
+    face!("[mnth]");
 }

@@ -1,0 +1,3 @@
+fn main() {
+    show("[mnth]");
+}
