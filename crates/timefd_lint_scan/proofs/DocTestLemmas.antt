@@ -8,43 +8,43 @@ use Rattle.timefd_lint_scan.specs.declared.doc_tests.place.DocPlace.{DocPlace}
 use Rattle.timefd_lint_scan.specs.declared.doc_tests.place.DocPlace.TheVariants.{Outside}
 use Rattle.timefd_lint_scan.specs.declared.piece.PlacedToken.{PlacedToken}
 use Rattle.timefd_lint_scan.specs.Literals.{cut}
-use Rattle.timefd_lint_scan.specs.declared.doc_tests.info.Verdict.{Verdict}
-use Rattle.timefd_lint_scan.specs.declared.doc_tests.info.Verdict.TheVariants.{Unsaid}
+use Rattle.timefd_lint_scan.specs.declared.doc_tests.info.BlockLanguage.{BlockLanguage}
+use Rattle.timefd_lint_scan.specs.declared.doc_tests.info.BlockLanguage.TheVariants.{Unsaid}
 use Rattle.timefd_lint_scan.specs.Bytes.{Text}
-use Rattle.timefd_lint_scan.specs.DocTests.{Line, TestCode, after_comment, after_word, code_from, code_with, goes_on, is_in_example, is_rust, line_code, line_of, opened_in, place_next, place_of, takes, test_of, tests_from, tests_in, to_last, verdict_of, with_comment, with_opened, word_end}
+use Rattle.timefd_lint_scan.specs.DocTests.{Line, TestCode, after_comment, after_word, code_from, code_with, goes_on, is_in_example, is_rust, line_code, line_of, opened_in, place_next, place_of, takes, test_of, tests_from, tests_in, to_last, language_of, with_comment, with_opened, word_end}
 
 -- What is left decides what all words say.
-pub record IsLeft (info rest : Text) (v : Verdict) : Type 0 where
+pub record IsLeft (info rest : Text) (v : BlockLanguage) : Type 0 where
   pub most : ℕ
   pub within : length rest ≤ most
-  pub same : verdict_of most v rest ≡ verdict_of (length info) Unsaid info
+  pub same : language_of most v rest ≡ language_of (length info) Unsaid info
 
 pub all_left : (info : Text) → IsLeft info info Unsaid
 all_left info = record { most = length info; within = omega arith; same = refl }
 
-word_less : (most : ℕ) (info rest next : Text) (v now : Verdict) → 0 < length rest → length rest ≤ most
-    → verdict_of most v rest ≡ verdict_of (length info) Unsaid info → next ≡ drop (word_end rest + 1) rest
+word_less : (most : ℕ) (info rest next : Text) (v now : BlockLanguage) → 0 < length rest → length rest ≤ most
+    → language_of most v rest ≡ language_of (length info) Unsaid info → next ≡ drop (word_end rest + 1) rest
     → now ≡ after_word v (take (word_end rest) rest) → IsLeft info next now
 word_less zero info rest next v now some within same after said = absurd (omega (arith, some, within))
 word_less (suc most) info [] next v now some within same after said = absurd (omega (arith, some))
 word_less (suc most) info (b ∷ bytes) next v now some within same after said = record {
   most = most;
   within = omega (arith, ap length after ∙ length-drop (word_end (b ∷ bytes) + 1) (b ∷ bytes), within);
-  same = ap (λ t. verdict_of most now t) after
-      ∙ (ap (λ w. verdict_of most w (drop (word_end (b ∷ bytes) + 1) (b ∷ bytes))) said ∙ same);
+  same = ap (λ t. language_of most now t) after
+      ∙ (ap (λ w. language_of most w (drop (word_end (b ∷ bytes) + 1) (b ∷ bytes))) said ∙ same);
 }
 
 -- A word less.
-pub one_less : (info rest next : Text) (v now : Verdict) → 0 < length rest → next ≡ drop (word_end rest + 1) rest
+pub one_less : (info rest next : Text) (v now : BlockLanguage) → 0 < length rest → next ≡ drop (word_end rest + 1) rest
     → now ≡ after_word v (take (word_end rest) rest) → IsLeft info rest v → IsLeft info next now
 one_less info rest next v now some after said left =
     word_less left.most info rest next v now some left.within left.same after said
 
-at_end : (most : ℕ) (v : Verdict) → verdict_of most v [] ≡ v
+at_end : (most : ℕ) (v : BlockLanguage) → language_of most v [] ≡ v
 at_end zero v = refl
 at_end (suc most) v = refl
 
-pub none_left : (info rest : Text) (v : Verdict) → length rest ≡ 0 → IsLeft info rest v → takes v ≡ is_rust info
+pub none_left : (info rest : Text) (v : BlockLanguage) → length rest ≡ 0 → IsLeft info rest v → takes v ≡ is_rust info
 none_left info [] v none left = ap takes (sym (at_end left.most v) ∙ left.same)
 none_left info (b ∷ bytes) v none left = absurd (omega (arith, none))
 

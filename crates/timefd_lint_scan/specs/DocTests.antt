@@ -9,8 +9,8 @@ use Rattle.timefd_lint_scan.specs.declared.doc_tests.line.DocSide.TheVariants.{O
 use Rattle.timefd_lint_scan.specs.declared.doc_tests.place.DocPlace.{DocPlace}
 use Rattle.timefd_lint_scan.specs.declared.doc_tests.place.DocPlace.TheVariants.{Outside, Example, Block}
 use Rattle.timefd_lint_scan.specs.declared.doc_tests.fence.Fence.{Fence}
-use Rattle.timefd_lint_scan.specs.declared.doc_tests.info.Verdict.{Verdict}
-use Rattle.timefd_lint_scan.specs.declared.doc_tests.info.Verdict.TheVariants.{Unsaid, Rust, Other, Failing}
+use Rattle.timefd_lint_scan.specs.declared.doc_tests.info.BlockLanguage.{BlockLanguage}
+use Rattle.timefd_lint_scan.specs.declared.doc_tests.info.BlockLanguage.TheVariants.{Unsaid, Rust, Other, Failing}
 use Rattle.timefd_lint_scan.specs.declared.piece.PlacedToken.{PlacedToken}
 use Rattle.timefd_lint_scan.specs.After.{after_run}
 use Rattle.timefd_lint_scan.specs.Bytes.{Text, is_white}
@@ -41,18 +41,18 @@ is_attribute word =
 abbrev pub says_nothing : Text → Bool
 says_nothing word = length word == 0 || starts_with nat_eq word (codes "edition")
 
-abbrev pub with_word : Verdict → Text → Verdict
+abbrev pub with_word : BlockLanguage → Text → BlockLanguage
 with_word Unsaid word =
     if bytes_eq word (codes "rust") || is_attribute word then Rust else Other
 with_word Rust word = Rust
 with_word Other word = if bytes_eq word (codes "rust") then Rust else Other
 with_word Failing word = Failing
 
-abbrev pub after_word : Verdict → Text → Verdict
-after_word verdict word =
+abbrev pub after_word : BlockLanguage → Text → BlockLanguage
+after_word language word =
     if bytes_eq word (codes "compile_fail") then Failing
-    else if says_nothing word then verdict
-    else with_word verdict word
+    else if says_nothing word then language
+    else with_word language word
 
 -- A byte of a word after a fence.
 abbrev pub is_of_word : ℕ → Bool
@@ -62,13 +62,13 @@ abbrev pub word_end : Text → ℕ
 word_end text = prefix_len is_of_word text
 
 -- what the words of a text say, at most so many of them, after others
-abbrev pub verdict_of : ℕ → Verdict → Text → Verdict
-verdict_of zero verdict text = verdict
-verdict_of (suc most) verdict [] = verdict
-verdict_of (suc most) verdict (b ∷ bytes) =
-    verdict_of most (after_word verdict (take (word_end (b ∷ bytes)) (b ∷ bytes))) (drop (word_end (b ∷ bytes) + 1) (b ∷ bytes))
+abbrev pub language_of : ℕ → BlockLanguage → Text → BlockLanguage
+language_of zero language text = language
+language_of (suc most) language [] = language
+language_of (suc most) language (b ∷ bytes) =
+    language_of most (after_word language (take (word_end (b ∷ bytes)) (b ∷ bytes))) (drop (word_end (b ∷ bytes) + 1) (b ∷ bytes))
 
-abbrev pub takes : Verdict → Bool
+abbrev pub takes : BlockLanguage → Bool
 takes Unsaid = true
 takes Rust = true
 takes Other = false
@@ -76,7 +76,7 @@ takes Failing = false
 
 -- A block with these words after its fence is an example of Rust that has to compile.
 abbrev pub is_rust : Text → Bool
-is_rust info = takes (verdict_of (length info) Unsaid info)
+is_rust info = takes (language_of (length info) Unsaid info)
 
 -- how many of these bytes a text begins with
 abbrev pub count_of : ℕ → Text → ℕ

@@ -9,7 +9,7 @@ use crate::line::from;
 
 /// What the words up to one say about a block.
 #[derive(Clone, Copy)]
-pub enum Verdict {
+pub enum BlockLanguage {
     /// Nothing yet: without a word it is Rust.
     Unsaid,
     /// It is Rust.
@@ -32,39 +32,39 @@ fn is_attribute(word: &[u8]) -> bool
 }
 
 // What the words say up to one that says something.
-fn with_word(verdict: Verdict, word: &[u8]) -> Verdict
-    ensures { result ≡ spec.with_word verdict word.now }
+fn with_word(language: BlockLanguage, word: &[u8]) -> BlockLanguage
+    ensures { result ≡ spec.with_word language word.now }
 {
-    match verdict {
-        Verdict::Unsaid => {
+    match language {
+        BlockLanguage::Unsaid => {
             if is(word, "rust") || is_attribute(word) {
-                Verdict::Rust
+                BlockLanguage::Rust
             } else {
-                Verdict::Other
+                BlockLanguage::Other
             }
         }
-        Verdict::Rust => Verdict::Rust,
-        Verdict::Other => {
+        BlockLanguage::Rust => BlockLanguage::Rust,
+        BlockLanguage::Other => {
             if is(word, "rust") {
-                Verdict::Rust
+                BlockLanguage::Rust
             } else {
-                Verdict::Other
+                BlockLanguage::Other
             }
         }
-        Verdict::Failing => Verdict::Failing,
+        BlockLanguage::Failing => BlockLanguage::Failing,
     }
 }
 
 // What the words say up to one that follows others.
-fn after_word(verdict: Verdict, word: &[u8]) -> Verdict
-    ensures { result ≡ spec.after_word verdict word.now }
+fn after_word(language: BlockLanguage, word: &[u8]) -> BlockLanguage
+    ensures { result ≡ spec.after_word language word.now }
 {
     if is(word, "compile_fail") {
-        Verdict::Failing
+        BlockLanguage::Failing
     } else if word.is_empty() || word.starts_with(b"edition") {
-        verdict
+        language
     } else {
-        with_word(verdict, word)
+        with_word(language, word)
     }
 }
 
@@ -99,12 +99,12 @@ fn front(text: &[u8], end: usize) -> &[u8]
     text.get(..end).unwrap_or(text)
 }
 
-fn takes(verdict: Verdict) -> bool
-    ensures { result ≡ spec.takes verdict }
+fn takes(language: BlockLanguage) -> bool
+    ensures { result ≡ spec.takes language }
 {
-    match verdict {
-        Verdict::Unsaid | Verdict::Rust => true,
-        Verdict::Other | Verdict::Failing => false,
+    match language {
+        BlockLanguage::Unsaid | BlockLanguage::Rust => true,
+        BlockLanguage::Other | BlockLanguage::Failing => false,
     }
 }
 
@@ -113,12 +113,12 @@ fn takes(verdict: Verdict) -> bool
 pub fn is_rust(info: &[u8]) -> bool
     ensures { result ≡ spec.is_rust info.now }
 {
-    let mut verdict = Verdict::Unsaid;
+    let mut language = BlockLanguage::Unsaid;
     let mut rest = info;
     'words: while !rest.is_empty() {
         let end = word_end(rest);
-        verdict = after_word(verdict, front(rest, end));
+        language = after_word(language, front(rest, end));
         rest = from(rest, end + 1);
     }
-    takes(verdict)
+    takes(language)
 }

@@ -6,15 +6,15 @@ use Rattle.timefd_lint_scan.proofs.doc_tests.info.is_rust.Goals as goal
 
 pub words-preserved : goal.words-preserved
 words-preserved c =
-    one_less c.args.info.now c.words.rest.now c.from-rest.result.now c.words.verdict c.after_word-verdict.result
+    one_less c.args.info.now c.words.rest.now c.from-rest.result.now c.words.language c.after_word-language.result
     (grind (arith, nat_tests, c.is_empty.ensures, c.words-test.true))
     (c.from-rest.ensures ∙ ap (λ n. drop (n + 1) c.words.rest.now) c.word_end-end.ensures.end)
-    (c.after_word-verdict.ensures
-    ∙ ap (after_word c.words.verdict) (c.front.ensures ∙ ap (λ n. take n c.words.rest.now) c.word_end-end.ensures.end))
+    (c.after_word-language.ensures
+    ∙ ap (after_word c.words.language) (c.front.ensures ∙ ap (λ n. take n c.words.rest.now) c.word_end-end.ensures.end))
     c.words.invariant
 
 pub returns : goal.returns
 returns c =
     c.takes.ensures
-    ∙ none_left c.args.info.now c.words.rest.now c.words.verdict (grind (arith, nat_tests, c.is_empty.ensures, c.words-test.false))
+    ∙ none_left c.args.info.now c.words.rest.now c.words.language (grind (arith, nat_tests, c.is_empty.ensures, c.words-test.false))
     c.words.invariant

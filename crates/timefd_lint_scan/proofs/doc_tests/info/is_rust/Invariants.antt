@@ -3,7 +3,7 @@ use Rattle.timefd_lint_scan.proofs.DocTestLemmas.{IsLeft}
 use Rattle.timefd_lint_scan.proofs.doc_tests.info.is_rust.Given as goal
 
 abbrev pub invariant-words : goal.invariant-words
-invariant-words l = IsLeft l.info l.rest l.verdict
+invariant-words l = IsLeft l.info l.rest l.language
 
 abbrev pub decreases-words : goal.decreases-words
 decreases-words l = length l.rest
