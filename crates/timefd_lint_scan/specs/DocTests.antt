@@ -1,7 +1,6 @@
 -- Examples in doc comments, as rustdoc compiles them: each is a source by itself.
-use Rattle.std.specs.Prelude.{ℕ, zero, suc, ◌≡◌, ◌+◌, ◌-◌, ◌<◌, ◌⊎◌, Bool, true, false, not, ◌&&◌, ◌||◌, ◌==◌, nat_eq, nat_le, nat_lt, if◌then◌else◌, List, [], ◌∷◌, ◌++◌, codes, bytes_eq, drop, get_or, length, replicate, take, Option, Some, None}
+use Rattle.std.specs.Prelude.{ℕ, zero, suc, ◌≡◌, ◌+◌, ◌-◌, ◌<◌, ◌⊎◌, Bool, true, false, not, ◌&&◌, ◌||◌, ◌==◌, nat_eq, nat_le, nat_lt, if◌then◌else◌, List, [], ◌∷◌, ◌++◌, codes, bytes_eq, drop, get_or, length, take, Option, Some, None}
 use Rattle.std.specs.List.{prefix_len, starts_with}
-use Rattle.timefd_lint_scan.specs.declared.class.ByteSet.TheVariants.{White}
 use Rattle.timefd_lint_scan.specs.declared.doc_tests.DocTest.{DocTest}
 use Rattle.timefd_lint_scan.specs.declared.doc_tests.before.LineBefore.{LineBefore}
 use Rattle.timefd_lint_scan.specs.declared.doc_tests.line.DocLine.{DocLine}
@@ -193,9 +192,13 @@ is_line source before line = is_in_example (place_of source before line) && is_i
 abbrev pub opens : Text → Option LineBefore → Line → Bool
 opens source before line = not (is_in_example (place_of source before line)) && is_in_example (place_next source before line)
 
--- what a line of an example adds to it: the white bytes before it, three spaces for its sign, and its code
+-- the code of a line after these bytes: three spaces are its sign
+abbrev pub code_after : Text → Text → Text
+code_after bytes text = bytes ++ 32 ∷ 32 ∷ 32 ∷ [] ++ code_of text
+
+-- what a line of an example adds to it: the white bytes before it, and its code
 abbrev pub line_code : Text → Option LineBefore → Line → Text
-line_code source before line = gap source before line ++ 32 ∷ 32 ∷ 32 ∷ [] ++ code_of line.text
+line_code source before line = code_after (gap source before line) line.text
 
 -- the code that a comment begins with, before the code of the next ones
 abbrev pub code_with : Text → Option LineBefore → Option Line → Text → Text
@@ -215,6 +218,29 @@ pub record TestCode : Type 0 where
 
 abbrev pub test_of : DocTest → TestCode
 test_of test = record { start = test.start; code = test.code.items }
+
+-- the last of these examples has these bytes more
+abbrev pub to_last : Text → List TestCode → List TestCode
+to_last bytes [] = []
+to_last bytes (e ∷ []) = record { start = e.start; code = e.code ++ bytes } ∷ []
+to_last bytes (e ∷ next ∷ es) = e ∷ to_last bytes (next ∷ es)
+
+-- these examples and one that begins at a position
+abbrev pub with_opened : ℕ → List TestCode → List TestCode
+with_opened start es = es ++ record { start = start; code = [] } ∷ []
+
+-- these examples after a line that stands between two places, and has this code: it is of the last one, or opens another, or neither
+abbrev pub with_line : DocPlace → DocPlace → ℕ → Text → List TestCode → List TestCode
+with_line place next end code es =
+    if not (is_in_example next) then es
+    else if is_in_example place then to_last code es
+    else with_opened end es
+
+-- these examples after a comment more
+abbrev pub with_comment : Text → Option LineBefore → Option Line → List TestCode → List TestCode
+with_comment source before None es = es
+with_comment source before (Some line) es =
+    with_line (place_of source before line) (place_next source before line) line.piece.end (line_code source before line) es
 
 -- the example that a comment opens, if it does, with the code of the comments after it: it begins where that comment ends
 abbrev pub opened_in : Text → Option LineBefore → Option Line → Text → List TestCode

@@ -41,13 +41,10 @@ pub fn gap<'a>(source: &'a [u8], before: Option<LineBefore>, line: DocLine<'_>) 
 fn goes_on(source: &[u8], before: LineBefore, line: DocLine<'_>) -> bool
     ensures { result ≡ spec.goes_on source.now before (spec.read line.entry) }
 {
+    let bytes = between(source, before.end, line.piece.start);
     is_same(before.side, line.side)
         && before.end <= line.piece.start
-        && after_run(
-            ByteSet::White,
-            between(source, before.end, line.piece.start),
-        )
-        .is_empty()
+        && after_run(ByteSet::White, bytes).is_empty()
 }
 
 /// Where a line stands: at the place after the line before it, if it goes on with the doc comment of that.

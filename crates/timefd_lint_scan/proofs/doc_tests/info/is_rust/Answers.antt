@@ -1,4 +1,4 @@
-use Rattle.std.proofs.Common.{◌∙◌, ◌+◌, ap, arith, drop, rules, take}
+use Rattle.std.proofs.Common.{◌∙◌, ◌+◌, ap, arith, drop, take}
 use Rattle.std.proofs.lemmas.Bool.Decides.{nat_tests}
 use Rattle.timefd_lint_scan.specs.DocTests.{after_word}
 use Rattle.timefd_lint_scan.proofs.DocTestLemmas.{none_left, one_less}
