@@ -17,7 +17,7 @@ use Rattle.timefd_lint_scan.specs.declared.version.VersionPosition.{VersionPosit
 use Rattle.timefd_lint_scan.specs.declared.version.VersionPosition.TheVariants.{Digit, Unsaid, Call, Elsewhere}
 use Rattle.timefd_lint_scan.specs.After.{after_run}
 use Rattle.timefd_lint_scan.specs.Bytes.{Text, class_test}
-use Rattle.timefd_lint_scan.specs.DocTests.{TestCode, test_of, tests_in}
+use Rattle.timefd_lint_scan.specs.DocTests.{test_of, tests_in}
 use Rattle.timefd_lint_scan.specs.Found.{IsDescribed, begun_after, end_after}
 use Rattle.timefd_lint_scan.specs.Gathered.{AreComments}
 use Rattle.timefd_lint_scan.specs.Literals.{cut}
@@ -95,15 +95,18 @@ IsLookOfCode code own look = IsLookIf (is_utf8 code) code own look
 abbrev pub IsSeenExample : List OwnCall → SeenExample → Type 0
 IsSeenExample own s = IsLookOfCode s.test.code.items own s.look
 
-abbrev pub example_of : SeenExample → TestCode
-example_of s = test_of s.test
+-- These are the same examples, with what is seen in each.
+pub record AreSeenIn (own : List OwnCall) (tests : List DocTest) (seen : List SeenExample) : Type 0 where
+  pub same : map (λ s. s.test) seen ≡ tests
+  pub each : All (IsSeenExample own) seen
 
 -- These are the examples in the doc comments of a source, in order, and what is seen in each, with these calls of its project.
 pub record AreSeenExamples (source : Text) (own : List OwnCall) (seen : List SeenExample) : Type 0 where
   pub notes : List PlacedToken
   pub noted : AreComments source notes
-  pub examples : map example_of seen ≡ tests_in source notes
-  pub each : All (IsSeenExample own) seen
+  pub tests : List DocTest
+  pub examples : map test_of tests ≡ tests_in source notes
+  pub seen_in : AreSeenIn own tests seen
 
 -- from the front on, what passes a test; and what follows that
 abbrev pub front : {X : Type 0} → (X → Bool) → List X → List X

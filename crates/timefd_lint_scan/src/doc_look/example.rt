@@ -19,6 +19,7 @@ pub struct SeenExample {
 
 /// Looks into the code of an example. It is UTF-8 as its source is; the test makes sure. An `Err` says that memory ran out, or that the
 /// code has 4 GiB or more.
+#[tactic(auto, using(crate::proofs::ExampleLemmas::as_source, crate::proofs::ExampleLemmas::no_source))]
 fn look_of_code(alloc: Global, code: &[u8], own: &[OwnCall]) -> Result<Look, AllocError>
     ensures { IfOk result (IsLookOfCode code.now own.now) }
 {
@@ -29,6 +30,7 @@ fn look_of_code(alloc: Global, code: &[u8], own: &[OwnCall]) -> Result<Look, All
 }
 
 /// Looks into each of these examples.
+#[tactic(auto, using(crate::proofs::ExampleLemmas::none_seen, crate::proofs::ExampleLemmas::one_seen))]
 fn seen_in(
     alloc: Global,
     tests: Vec<DocTest>,
@@ -46,6 +48,7 @@ fn seen_in(
 
 /// The examples in a source, and what is seen in each, with these calls of its project. An `Err` says that memory ran out, or that an
 /// example has 4 GiB or more.
+#[tactic(auto, using(crate::proofs::ExampleLemmas::all_seen))]
 pub fn examples_in(
     alloc: Global,
     source: &str,
