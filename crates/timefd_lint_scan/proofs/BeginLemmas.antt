@@ -1,13 +1,16 @@
 -- Where the blocks that tokens are in begin.
-use Rattle.std.proofs.Common.{ℕ, ◌≡◌, ◌==◌, ◌∙◌, ◌+◌, ◌-◌, ◌<◌, ◌≤◌, ◌++◌, ◌&&◌, List, [], ◌∷◌, ap, arith, false, get_or, inl, inr, length, length-append, max, nat_le, nat_lt, refl, reverse, subst, suc, sym, take, true, zero}
+use Rattle.std.proofs.Common.{ℕ, ◌≡◌, ◌==◌, ◌∙◌, ◌+◌, ◌-◌, ◌<◌, ◌≤◌, ◌++◌, ◌&&◌, List, [], ◌∷◌, ap, arith, false, get_or, inl, inr, length, max, nat_le, nat_lt, refl, reverse, subst, suc, sym, take, true, zero}
 use Rattle.std.proofs.lemmas.Bool.{cases_Bool}
 use Rattle.std.proofs.lemmas.Bool.Decides.{nat_tests}
-use Rattle.std.proofs.lemmas.List.{get_or_append_left, get_or_push, take_more}
+use Rattle.std.proofs.lemmas.List.{take_more}
+use Rattle.std.proofs.lemmas.List.Elements.{All-contains, All-nil, All-push, All-same}
 use Rattle.std.proofs.lemmas.Option.{slice_get-get_or}
+use Rattle.std.specs.List.{Contains}
 use Rattle.std.specs.Prelude.{if◌then◌else◌, ⊤}
+use Rattle.timefd_lint_scan.specs.declared.blocks.TokenPosition.{TokenPosition}
 use Rattle.timefd_lint_scan.specs.declared.piece.PlacedToken.{PlacedToken}
 use Rattle.timefd_lint_scan.specs.Bytes.{Text}
-use Rattle.timefd_lint_scan.specs.Layouts.{AreBegins, but_first, opened, openings}
+use Rattle.timefd_lint_scan.specs.Layouts.{AreBegins, IsBegin, but_first, opened, openings}
 use Rattle.timefd_lint_scan.specs.Scopes.{is_outside}
 use Rattle.timefd_lint_scan.specs.Words.{is_closing, is_opening, position_at, position_of_any, text_of}
 
@@ -122,34 +125,49 @@ place ps i p other below at =
     ap position_of_any (slice_get-get_or ps i other below) ∙ ap (λ (q : PlacedToken). q.start) (sym at)
 
 -- What is kept of the first tokens.
-pub record AreSoFar (source : Text) (ps : List PlacedToken) (n end : ℕ) (open_there kept : List ℕ) : Type 0 where
-  pub amount : length kept ≡ n
+pub record AreSoFar (source : Text) (ps : List PlacedToken) (n end : ℕ) (open_there : List ℕ) (kept : List TokenPosition) : Type 0 where
   pub order : (m : ℕ) → m < n → position_at ps m < end
   pub stack : open_there ≡ reverse (openings source [] (take n ps))
   pub begins : AreBegins source ps kept
 
-pub no_begins : (source : Text) (ps : List PlacedToken) (begins : List ℕ) → length begins ≡ 0 → AreBegins source ps begins
-no_begins source ps begins none = record { outside = λ i from below after. absurd (omega (arith, none, below)) }
+pub no_begins : (source : Text) (ps : List PlacedToken) → AreBegins source ps []
+no_begins source ps = All-nil (IsBegin source ps)
 
 pub at_first : (source : Text) (ps : List PlacedToken) (end : ℕ) → AreSoFar source ps 0 end [] []
 at_first source ps end = record {
-  amount = refl;
   order = λ m below. absurd (omega (arith, below));
   stack = refl;
-  begins = no_begins source ps [] refl;
+  begins = no_begins source ps;
 }
 
-pub one_more : (source : Text) (ps : List PlacedToken) (n end value : ℕ) (p other : PlacedToken) (stack after begins now : List ℕ)
-    → n < length ps → p ≡ get_or ps n other → end ≤ p.start → p.start < p.end
-    → ((st : List ℕ) → stack ≡ reverse st → value ≡ get_or st 0 0)
-    → ((st : List ℕ) → stack ≡ reverse st → after ≡ reverse (opened source p st)) → now ≡ begins ++ value ∷ []
-    → AreSoFar source ps n end stack begins → AreSoFar source ps (n + 1) p.end after now
-one_more source ps n end value p other stack after begins now below at late long last passed pushed so_far =
+-- A position is kept for the next token.
+pub begin_more : (source : Text) (ps : List PlacedToken) (n end : ℕ) (p other : PlacedToken) (kept : TokenPosition) (stack : List ℕ)
+    (begins now : List TokenPosition) → n < length ps → p ≡ get_or ps n other → end ≤ p.start → kept.token ≡ n
+    → ((st : List ℕ) → stack ≡ reverse st → kept.position ≡ get_or st 0 0) → now ≡ begins ++ kept ∷ []
+    → AreSoFar source ps n end stack begins → AreSoFar source ps n end stack now
+begin_more source ps n end p other kept stack begins now below at late token last pushed so_far =
     let ns : List ℕ = openings source [] (take n ps) in
     let here : position_at ps n ≡ p.start = place ps n p other below at in
-    let is : value ≡ get_or ns 0 0 = last ns so_far.stack in
+    let is : kept.position ≡ get_or ns 0 0 = last ns so_far.stack in
+    let begin : IsBegin source ps kept = λ from over.
+    subst (λ k. is_outside source from (position_at ps k) 0 ps ≡ true) (sym token)
+    (outside source from (position_at ps n) 0 n [] ps (omega arith) below
+    (λ m less. omega (arith, so_far.order m less, here, late)) refl
+    (none_after from ns (falling source [] (take n ps) tt) (omega (arith, is, over)))) in
     record {
-      amount = ap length pushed ∙ (length-append begins (value ∷ []) ∙ ap (λ k. k + 1) so_far.amount);
+      order = so_far.order;
+      stack = so_far.stack;
+      begins = All-same (IsBegin source ps) now (begins ++ kept ∷ []) pushed (All-push (IsBegin source ps) begins kept so_far.begins begin);
+    }
+
+pub one_more : (source : Text) (ps : List PlacedToken) (n end : ℕ) (p other : PlacedToken) (stack after : List ℕ) (begins : List TokenPosition)
+    → n < length ps → p ≡ get_or ps n other → end ≤ p.start → p.start < p.end
+    → ((st : List ℕ) → stack ≡ reverse st → after ≡ reverse (opened source p st))
+    → AreSoFar source ps n end stack begins → AreSoFar source ps (n + 1) p.end after begins
+one_more source ps n end p other stack after begins below at late long passed so_far =
+    let ns : List ℕ = openings source [] (take n ps) in
+    let here : position_at ps n ≡ p.start = place ps n p other below at in
+    record {
       order = λ m less. elim (cases_Bool (nat_lt m n)) [
         | inl before ↦
             let early : m < n = grind (arith, nat_tests, before) in
@@ -162,24 +180,13 @@ one_more source ps n end value p other stack after begins now below at late long
           ∙ ap reverse (ap (λ q. opened source q ns) at
           ∙ (sym (one_opened source [] (take n ps) (get_or ps n other))
           ∙ ap (openings source []) (sym (take_more ps n other below))));
-      begins = record {
-        outside = λ i from inside over. elim (cases_Bool (nat_lt i n)) [
-          | inl before ↦
-              let early : i < length begins = grind (arith, nat_tests, before, so_far.amount) in
-              let old : get_or now i 0 ≡ get_or begins i 0 =
-              ap (λ l. get_or l i 0) pushed ∙ get_or_append_left begins (value ∷ []) 0 i early in
-              so_far.begins.outside i from early (omega (arith, old, over))
-          | inr not ↦
-              let long_now : length now ≡ n + 1 =
-              ap length pushed ∙ (length-append begins (value ∷ []) ∙ ap (λ k. k + 1) so_far.amount) in
-              let same : i ≡ n = grind (arith, nat_tests, not, inside, long_now) in
-              let new : get_or now n 0 ≡ value =
-              ap (λ l. get_or l n 0) pushed ∙ get_or_push begins value 0 n so_far.amount in
-              let above : get_or ns 0 0 < from = omega (arith, ap (λ k. get_or now k 0) same, new, is, over) in
-              subst (λ k. is_outside source from (position_at ps k) 0 ps ≡ true) (sym same)
-              (outside source from (position_at ps n) 0 n [] ps (omega arith) below
-              (λ m less. omega (arith, so_far.order m less, here, late)) refl
-              (none_after from ns (falling source [] (take n ps) tt) above))
-        ];
-      };
+      begins = so_far.begins;
     }
+
+-- Brackets that open after the position that is kept for a token are closed again there.
+pub outside_at : (source : Text) (ps : List PlacedToken) (begins : List TokenPosition) (kept : TokenPosition) (token from : ℕ)
+    → AreBegins source ps begins → Contains begins kept → kept.token ≡ token → kept.position < from
+    → is_outside source from (position_at ps token) 0 ps ≡ true
+outside_at source ps begins kept token from are among same over =
+    subst (λ k. is_outside source from (position_at ps k) 0 ps ≡ true) same
+    (All-contains (IsBegin source ps) begins kept are among from over)

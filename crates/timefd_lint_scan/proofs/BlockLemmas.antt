@@ -1,16 +1,18 @@
 -- Where the blocks that tokens are in begin and end.
-use Rattle.std.proofs.Common.{ℕ, ◌≡◌, ◌==◌, ◌≢◌, ◌∙◌, ◌+◌, ◌-◌, ◌<◌, ◌≤◌, ◌++◌, List, [], ◌∷◌, add-one, ap, arith, drop, false, get_or, inl, inr, length, length-append, length-set, nat_le, nat_lt, refl, reverse, set, subst, suc, sym, true, zero}
+use Rattle.std.proofs.Common.{ℕ, ◌≡◌, ◌==◌, ◌∙◌, ◌+◌, ◌-◌, ◌<◌, ◌≤◌, ◌++◌, List, [], ◌∷◌, add-one, ap, arith, drop, false, get_or, inl, inr, length, length-append, nat_le, refl, reverse, subst, suc, sym, true, zero}
 use Rattle.std.proofs.lemmas.Bool.{cases_Bool}
 use Rattle.std.proofs.lemmas.Bool.Decides.{nat_tests}
 use Rattle.std.proofs.lemmas.Grind.{reverse_onto}
-use Rattle.std.proofs.lemmas.List.{drop_all, drop_more, get_or-set_other, get_or-set_same, get_or_push}
+use Rattle.std.proofs.lemmas.List.{drop_all, drop_more, get_or_push}
 use Rattle.std.proofs.lemmas.Option.{unwrap_or-slice_get}
-use Rattle.std.specs.List.{slice_get}
+use Rattle.std.proofs.lemmas.List.Elements.{All-contains, All-nil, All-push, All-same}
+use Rattle.std.specs.List.{Contains, slice_get}
 use Rattle.std.specs.Option.{unwrap_or}
+use Rattle.timefd_lint_scan.specs.declared.blocks.TokenPosition.{TokenPosition}
 use Rattle.timefd_lint_scan.specs.declared.piece.PlacedToken.{PlacedToken}
 use Rattle.timefd_lint_scan.specs.Aliases.{block_end}
 use Rattle.timefd_lint_scan.specs.Bytes.{Text}
-use Rattle.timefd_lint_scan.specs.Layouts.{AreEnds, but_first, closings, closings_before}
+use Rattle.timefd_lint_scan.specs.Layouts.{AreEnds, IsEnd, but_first, closings, closings_before}
 use Rattle.timefd_lint_scan.specs.Scopes.{stays_open}
 use Rattle.timefd_lint_scan.specs.Words.{is_closing, is_opening, text_of}
 
@@ -103,43 +105,32 @@ one_back source ps n left p other before now next below at was passed =
     drop_more ps n other below ∙ (ap (λ x. x ∷ drop (n + 1) ps) (sym at) ∙ ap (λ k. p ∷ drop k ps) next) in
     passed (closings source (drop left ps)) was ∙ ap (λ l. reverse (closings source l)) (sym split)
 
-pub end_more : (source : Text) (ps : List PlacedToken) (n left value : ℕ) (stack ends : List ℕ) → n + 1 ≡ left
-    → n < length ends → stack ≡ reverse (closings source (drop n ps))
-    → ((st : List ℕ) → stack ≡ reverse st → value ≡ get_or st 0 (length source)) → AreEnds source ps left ends
-    → AreEnds source ps n (set ends n value)
-end_more source ps n left value stack ends next below closed last are = record {
-  block_ends = λ i from inside. elim (cases_Bool (nat_lt n i)) [
-    | inl later ↦
-        let after : left ≤ i = grind (arith, nat_tests, later, next) in
-        let apart : i ≢ n = λ same. omega (arith, same, after, next) in
-        get_or-set_other ends n i value 0 apart ∙ are.block_ends i after (omega (arith, inside, length-set ends n value))
-    | inr not ↦
-        let same : i ≡ n = grind (arith, nat_tests, not, from) in
-        ap (λ k. get_or (set ends n value) k 0) same
-        ∙ (get_or-set_same ends n value 0 below ∙ (last (closings source (drop n ps)) closed
-        ∙ (sym (ends_at source 0 (drop n ps)) ∙ ap (λ k. block_end source 0 (drop k ps)) (sym same))))
-  ];
-  open_up_to = λ i position from inside within. elim (cases_Bool (nat_lt n i)) [
-    | inl later ↦
-        let after : left ≤ i = grind (arith, nat_tests, later, next) in
-        let apart : i ≢ n = λ same. omega (arith, same, after, next) in
-        are.open_up_to i position after (omega (arith, inside, length-set ends n value))
-        (subst (λ k. position ≤ k) (get_or-set_other ends n i value 0 apart) within)
-    | inr not ↦
-        let same : i ≡ n = grind (arith, nat_tests, not, from) in
-        let is : get_or (set ends n value) i 0 ≡ get_or (closings source (drop n ps)) 0 (length source) =
-        ap (λ k. get_or (set ends n value) k 0) same
-        ∙ (get_or-set_same ends n value 0 below ∙ last (closings source (drop n ps)) closed) in
-        subst (λ k. stays_open source position 0 (drop k ps) ≡ true) (sym same)
-        (stays source position (length source) 0 (drop n ps) (subst (λ k. position ≤ k) is within))
-  ];
-}
+-- Up to the position that is kept for a token, its block is open.
+pub open_up_to : (source : Text) (ps : List PlacedToken) (ends : List TokenPosition) (kept : TokenPosition) (token position : ℕ)
+    → AreEnds source ps ends → Contains ends kept → kept.token ≡ token → position ≤ kept.position
+    → stays_open source position 0 (drop token ps) ≡ true
+open_up_to source ps ends kept token position are among same within =
+    let is : kept.position ≡ block_end source 0 (drop kept.token ps) = All-contains (IsEnd source ps) ends kept are among in
+    let bound : position ≤ get_or (closings source (drop token ps)) 0 (length source) =
+    subst (λ n. position ≤ n) (is ∙ (ap (λ k. block_end source 0 (drop k ps)) same ∙ ends_at source 0 (drop token ps))) within in
+    stays source position (length source) 0 (drop token ps) bound
 
-pub no_ends : (source : Text) (ps : List PlacedToken) (from : ℕ) (ends : List ℕ) → length ends ≤ from → AreEnds source ps from ends
-no_ends source ps from ends none = record {
-  block_ends = λ i at inside. absurd (omega (arith, none, at, inside));
-  open_up_to = λ i position at inside within. absurd (omega (arith, none, at, inside));
-}
+-- what closes first, if anything does
+pub end_is : (source : Text) (ps : List PlacedToken) (value : ℕ) (stack : List ℕ) → stack ≡ reverse (closings source ps)
+    → ((st : List ℕ) → stack ≡ reverse st → value ≡ get_or st 0 (length source)) → value ≡ block_end source 0 ps
+end_is source ps value stack closed last = last (closings source ps) closed ∙ sym (ends_at source 0 ps)
+
+pub end_more : (source : Text) (ps : List PlacedToken) (n : ℕ) (kept : TokenPosition) (stack : List ℕ) (ends now : List TokenPosition)
+    → kept.token ≡ n → stack ≡ reverse (closings source (drop n ps))
+    → ((st : List ℕ) → stack ≡ reverse st → kept.position ≡ get_or st 0 (length source)) → now ≡ ends ++ kept ∷ []
+    → AreEnds source ps ends → AreEnds source ps now
+end_more source ps n kept stack ends now token closed last pushed are =
+    let is : IsEnd source ps kept =
+    end_is source (drop n ps) kept.position stack closed last ∙ ap (λ k. block_end source 0 (drop k ps)) (sym token) in
+    All-same (IsEnd source ps) now (ends ++ kept ∷ []) pushed (All-push (IsEnd source ps) ends kept are is)
+
+pub no_ends : (source : Text) (ps : List PlacedToken) → AreEnds source ps []
+no_ends source ps = All-nil (IsEnd source ps)
 
 pub none_closed : (source : Text) (ps : List PlacedToken) (n : ℕ) → length ps ≤ n → [] ≡ reverse (closings source (drop n ps))
 none_closed source ps n none = ap (λ l. reverse (closings source l)) (sym (drop_all n ps none))

@@ -2,7 +2,6 @@
 use Rattle.std.proofs.Common.{ℕ, ◌≡◌, ◌∙◌, ◌+◌, ◌-◌, ◌<◌, ◌≤◌, ◌&&◌, ◌||◌, Bool, false, true, List, [], ◌∷◌, ap, arith, drop, get_or, inl, inr, length, nat_le, refl, subst, suc, suc-add, sym, zero, zero-add}
 use Rattle.std.proofs.lemmas.Bool.{and_parts, cases_Bool, or_from, or_left, or_right}
 use Rattle.std.proofs.lemmas.Bool.Decides.{nat_tests}
-use Rattle.std.proofs.lemmas.Option.{slice_get-get_or}
 use Rattle.std.proofs.lemmas.Slice.Eq.{bytes_eq-Decides}
 use Rattle.std.specs.Prelude.{bytes_eq, codes}
 use Rattle.timefd_lint_scan.specs.declared.piece.PlacedToken.{PlacedToken}
@@ -11,8 +10,9 @@ use Rattle.timefd_lint_scan.specs.declared.repeated.Declaring.TheVariants.{Surel
 use Rattle.timefd_lint_scan.specs.Bytes.{Text}
 use Rattle.timefd_lint_scan.specs.Declarations.{has_type, is_assigned, is_declared, is_declared_before, is_declaring, is_in_pattern, is_named, most_tokens}
 use Rattle.timefd_lint_scan.specs.Layouts.{AreRepeated, declares, declares_at, fingerprint, may_declare}
+use Rattle.timefd_lint_scan.specs.Scopes.{stays_open}
 use Rattle.timefd_lint_scan.specs.Uses.{is_only}
-use Rattle.timefd_lint_scan.specs.Words.{position_at, text_at, text_before, text_of, tokens_after}
+use Rattle.timefd_lint_scan.specs.Words.{is_closing, is_opening, position_at, text_at, text_before, text_of, tokens_after}
 
 -- the text before the token at an index, where another one precedes all tokens
 abbrev pub preceding : Text → Text → List PlacedToken → ℕ → Text
@@ -175,5 +175,14 @@ rest_after [] (suc d) = rw (suc-add) refl
 rest_after (p ∷ ps) zero = refl
 rest_after (p ∷ ps) (suc d) = rw (suc-add) (rest_after ps d)
 
-pub same_at : (ns : List ℕ) (n d other : ℕ) → n < length ns → get_or ns n d ≡ get_or ns n other
-same_at ns n d other below = cc (slice_get-get_or ns n d below, slice_get-get_or ns n other below)
+-- A block is still open after a token that is no bracket.
+pub open_after : (source : Text) (position : ℕ) (ps : List PlacedToken) (index : ℕ) → is_opening (text_at source ps index) ≡ false
+    → is_closing (text_at source ps index) ≡ false → position_at ps index < position
+    → stays_open source position 0 (drop index ps) ≡ true → stays_open source position 0 (drop (index + 1) ps) ≡ true
+open_after source position [] zero none closes before opened = refl
+open_after source position [] (suc index) none closes before opened = refl
+open_after source position (p ∷ ps) zero none closes before opened =
+    let late : nat_le position p.start ≡ false = grind (arith, nat_tests, before) in
+    rw (late, none, closes) at opened
+open_after source position (p ∷ ps) (suc index) none closes before opened =
+    rw (suc-add) (open_after source position ps index none closes before opened)

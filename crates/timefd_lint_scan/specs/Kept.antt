@@ -11,5 +11,5 @@ use Rattle.timefd_lint_scan.specs.Layouts.{AreBegins, AreEnds, AreRepeated}
 pub record IsLayout (source : Text) (ps : List PlacedToken) (l : TokenLayout) : Type 0 where
   pub items : AreRepeated source Surely ps (length ps) (contains nat_eq l.items)
   pub variables : AreRepeated source Maybe ps (length ps) (contains nat_eq l.variables)
-  pub ends : AreEnds source ps 0 l.ends.items
+  pub ends : AreEnds source ps l.ends.items
   pub begins : AreBegins source ps l.begins.items

@@ -1,12 +1,14 @@
 -- What is noted about the tokens of a source, so that names are looked up.
 use Rattle.std.specs.Prelude.{ℕ, ◌≡◌, ◌+◌, ◌*◌, ◌%◌, ◌^◌, ◌<◌, ◌≤◌, Bool, true, false, ◌||◌, if◌then◌else◌, List, [], ◌∷◌, codes, bytes_eq, drop, get_or, length, max}
+use Rattle.std.specs.List.{All}
+use Rattle.timefd_lint_scan.specs.declared.blocks.TokenPosition.{TokenPosition}
 use Rattle.timefd_lint_scan.specs.declared.piece.PlacedToken.{PlacedToken}
 use Rattle.timefd_lint_scan.specs.declared.repeated.Declaring.{Declaring}
 use Rattle.timefd_lint_scan.specs.declared.repeated.Declaring.TheVariants.{Surely, Maybe}
 use Rattle.timefd_lint_scan.specs.Aliases.{block_end}
 use Rattle.timefd_lint_scan.specs.Bytes.{Text}
 use Rattle.timefd_lint_scan.specs.Declarations.{has_type, is_assigned, is_declaring, is_in_pattern, most_tokens}
-use Rattle.timefd_lint_scan.specs.Scopes.{is_outside, stays_open}
+use Rattle.timefd_lint_scan.specs.Scopes.{is_outside}
 use Rattle.timefd_lint_scan.specs.Words.{is_closing, is_opening, position_at, text_at, text_before, text_of, tokens_after}
 
 abbrev pub with_byte : ℕ → ℕ → ℕ
@@ -60,11 +62,13 @@ abbrev pub closings : Text → List PlacedToken → List ℕ
 closings source [] = []
 closings source (p ∷ ps) = closings_before source p (closings source ps)
 
--- The position that is kept for a token is where the block ends that it is in, and up to there it isn't closed.
-pub record AreEnds (source : Text) (ps : List PlacedToken) (from : ℕ) (ends : List ℕ) : Type 0 where
-  pub block_ends : (i : ℕ) → from ≤ i → i < length ends → get_or ends i 0 ≡ block_end source 0 (drop i ps)
-  pub open_up_to : (i position : ℕ) → from ≤ i → i < length ends → position ≤ get_or ends i 0
-      → stays_open source position 0 (drop i ps) ≡ true
+-- The block that a token is in ends at the position that is kept for it.
+abbrev pub IsEnd : Text → List PlacedToken → TokenPosition → Type 0
+IsEnd source ps kept = kept.position ≡ block_end source 0 (drop kept.token ps)
+
+-- This is so of all that is kept.
+abbrev pub AreEnds : Text → List PlacedToken → List TokenPosition → Type 0
+AreEnds source ps ends = All (IsEnd source ps) ends
 
 -- for each open bracket a position up to which it and those around it begin, the innermost one first, by those that were open at
 -- the token before
@@ -80,6 +84,9 @@ openings source ns [] = ns
 openings source ns (p ∷ ps) = openings source (opened source p ns) ps
 
 -- After the position that is kept for a token, no bracket opens that is still open at the token.
-pub record AreBegins (source : Text) (ps : List PlacedToken) (begins : List ℕ) : Type 0 where
-  pub outside : (i from : ℕ) → i < length begins → get_or begins i 0 < from
-      → is_outside source from (position_at ps i) 0 ps ≡ true
+abbrev pub IsBegin : Text → List PlacedToken → TokenPosition → Type 0
+IsBegin source ps kept = (from : ℕ) → kept.position < from → is_outside source from (position_at ps kept.token) 0 ps ≡ true
+
+-- This is so of all that is kept.
+abbrev pub AreBegins : Text → List PlacedToken → List TokenPosition → Type 0
+AreBegins source ps begins = All (IsBegin source ps) begins

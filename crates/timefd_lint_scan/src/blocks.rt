@@ -1,13 +1,46 @@
 //! Where the blocks that tokens are in begin and end.
 
 ghost use Rattle.std.proofs.Common.{reverse};
-ghost use Rattle.std.specs.Prelude.{◌≡◌, ◌∷◌, IfOk, List, OnOk, get_or, ℕ};
+ghost use Rattle.std.specs.List.{Contains};
+ghost use Rattle.std.specs.Prelude.{◌≡◌, ◌∷◌, IfOk, IfSome, List, OnOk, get_or, length, ℕ};
 ghost use Rattle.timefd_lint_scan.specs.Layouts.{AreBegins, AreEnds};
 ghost use Rattle.timefd_lint_scan.specs.Layouts as spec;
 
 use crate::kept::KeptToken;
+use crate::shadow::is_declaring;
 use crate::word::{is_closing, is_opening, text_of};
 use std::alloc::{AllocError, Global};
+
+/// A position that is kept for a token.
+#[derive(Clone, Copy)]
+pub struct TokenPosition {
+    /// The token's index.
+    pub token: u32,
+    /// A byte index.
+    pub position: u32,
+}
+
+/// What is kept for a token, if something is. The tokens are in order.
+pub fn kept_for(kept: &[TokenPosition], token: usize) -> Option<TokenPosition>
+    ensures token { IfSome result (λ found. found.token ≡ token) }
+    ensures among { IfSome result (Contains kept.now) }
+{
+    let mut low: usize = 0;
+    let mut high = kept.len();
+    'halves: while low < high {
+        let middle = low + (high - low) / 2;
+        let found = kept[middle];
+        if found.token as usize == token {
+            return Some(found);
+        }
+        if (found.token as usize) < token {
+            low = middle + 1;
+        } else {
+            high = middle;
+        }
+    }
+    None
+}
 
 // The last of these positions, or else another one.
 fn last_or(positions: &[u32], other: u32) -> u32
@@ -32,8 +65,18 @@ fn add_last(positions: &mut Vec<u32>, position: u32) -> Result<(), AllocError>
     Ok(())
 }
 
-// The closing brackets of blocks around a token, the next one last, by those of the token after it.
-fn pass_back(closings: &mut Vec<u32>, source: &[u8], piece: &KeptToken) -> Result<(), AllocError>
+/// Where the block ends that these closing brackets are around, the next one last.
+pub fn end_by(closings: &[u32], source: &[u8]) -> usize
+    ensures { (st : List ℕ) → closings.now ≡ reverse st → result ≡ get_or st 0 (length source.now) }
+{
+    match closings.last() {
+        Some(position) => *position as usize,
+        None => source.len(),
+    }
+}
+
+/// The closing brackets of blocks around a token, the next one last, by those of the token after it.
+pub fn pass_back(closings: &mut Vec<u32>, source: &[u8], piece: &KeptToken) -> Result<(), AllocError>
     ensures { OnOk result ((st : List ℕ) → closings.old.items ≡ reverse st
         → closings.new.items ≡ reverse (spec.closings_before source.now piece.now st)) }
 {
@@ -49,24 +92,37 @@ fn pass_back(closings: &mut Vec<u32>, source: &[u8], piece: &KeptToken) -> Resul
     Ok(())
 }
 
-/// For each token a position up to which the block that it is in isn't closed; empty if the source has 4 GiB or more. An `Err` says
+/// Where the blocks end that these tokens are in, which are in order; for none if the source has 4 GiB or more. An `Err` says
 /// that memory ran out.
 #[tactic(auto, using(crate::proofs::BlockLemmas::no_ends, crate::proofs::BlockLemmas::none_closed))]
-pub fn ends_of(alloc: Global, source: &[u8], pieces: &[KeptToken]) -> Result<Vec<u32>, AllocError>
-    ensures { IfOk result (λ ends. AreEnds source.now pieces.now 0 ends.items) }
+pub fn ends_of(
+    alloc: Global,
+    source: &[u8],
+    pieces: &[KeptToken],
+    declared: &[TokenPosition],
+) -> Result<Vec<TokenPosition>, AllocError>
+    ensures { IfOk result (λ ends. AreEnds source.now pieces.now ends.items) }
 {
+    let mut ends: Vec<TokenPosition> = Vec::with_capacity(alloc, declared.len())?;
     if source.len() > 4_294_967_295 {
-        return Ok(Vec::new(alloc));
+        return Ok(ends);
     }
     let len = source.len() as u32;
-    let mut ends = vec![in alloc; 0u32; pieces.len()]?;
     let mut closings: Vec<u32> = Vec::new(alloc);
+    let mut count = declared.len();
     let mut left = pieces.len();
     'tokens: while left > 0 {
         left -= 1;
         pass_back(&mut closings, source, &pieces[left])?;
-        ends[left] = last_or(&closings, len);
+        if count > 0 && declared[count - 1].token as usize == left {
+            count -= 1;
+            ends.push(TokenPosition {
+                token: declared[count].token,
+                position: last_or(&closings, len),
+            })?;
+        }
     }
+    ends.reverse();
     Ok(ends)
 }
 
@@ -88,20 +144,34 @@ fn pass_on(openings: &mut Vec<u32>, source: &[u8], piece: &KeptToken) -> Result<
     Ok(())
 }
 
-/// For each token a position after which no bracket opens that is still open at the token; empty if the tokens
-/// aren't in order. An `Err` says that memory ran out.
+/// For each name that is declared a position after which no bracket opens that is still open there; for none if the tokens aren't
+/// in order. An `Err` says that memory ran out.
 #[tactic(auto, using(crate::proofs::BeginLemmas::at_first, crate::proofs::BeginLemmas::no_begins))]
-pub fn begins_of(alloc: Global, source: &[u8], pieces: &[KeptToken]) -> Result<Vec<u32>, AllocError>
+pub fn begins_of(
+    alloc: Global,
+    source: &[u8],
+    pieces: &[KeptToken],
+) -> Result<Vec<TokenPosition>, AllocError>
     ensures { IfOk result (λ begins. AreBegins source.now pieces.now begins.items) }
 {
-    let mut begins: Vec<u32> = Vec::with_capacity(alloc, pieces.len())?;
+    if pieces.len() > 4_294_967_295 {
+        return Ok(Vec::new(alloc));
+    }
+    let mut begins: Vec<TokenPosition> = Vec::new(alloc);
     let mut openings: Vec<u32> = Vec::new(alloc);
+    let mut is_declared = false;
     let mut end = 0;
-    for piece in pieces {
+    for (index, piece) in pieces.iter().enumerate() {
         if piece.start() < end || piece.end() <= piece.start() {
             return Ok(Vec::new(alloc));
         }
-        begins.push(last_or(&openings, 0))?;
+        if is_declared {
+            begins.push(TokenPosition {
+                token: index as u32,
+                position: last_or(&openings, 0),
+            })?;
+        }
+        is_declared = is_declaring(piece.text(source));
         pass_on(&mut openings, source, piece)?;
         end = piece.end();
     }

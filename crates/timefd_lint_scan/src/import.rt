@@ -4,12 +4,11 @@ ghost use Rattle.std.specs.Prelude.{◌≡◌, ◌++◌, ◌∷◌, IfOk, OnOk};
 ghost use Rattle.std.specs.Option.{option_to_list};
 ghost use Rattle.timefd_lint_scan.specs.Aliases.{IsUntil};
 ghost use Rattle.timefd_lint_scan.specs.Aliases as spec;
-ghost use Rattle.timefd_lint_scan.specs.Kept.{IsLayout};
 
 use crate::alias::{Alias, after_first, block_end, is_imported};
+use crate::blocks::{end_by, pass_back};
 use crate::dialect::is;
 use crate::kept::KeptToken;
-use crate::layout::{TokenLayout, end_after};
 use crate::module_import::self_at;
 use crate::own_call::OwnCall;
 use crate::piece::PlacedToken;
@@ -211,12 +210,11 @@ pub fn aliases_of(
     source: &[u8],
     own: &[OwnCall],
     pieces: &[KeptToken],
-    layout: &TokenLayout,
 ) -> Result<Vec<Alias>, AllocError>
-    requires { IsLayout source.now pieces.now layout.now }
     ensures { IfOk result (λ aliases. aliases.items ≡ spec.aliases_in source.now own.now pieces.now) }
 {
     let mut aliases = Vec::new(alloc);
+    let mut closings: Vec<u32> = Vec::new(alloc);
     let mut until = source.len();
     let mut left = pieces.len();
     'tokens: while left > 0 {
@@ -232,8 +230,9 @@ pub fn aliases_of(
             alias_at(source, own, piece, after, Some(until)),
         )?;
         if is(text_of(source, piece), ";") {
-            until = end_after(source, pieces, layout, left);
+            until = end_by(&closings, source);
         }
+        pass_back(&mut closings, source, &pieces[left])?;
     }
     aliases.reverse();
     Ok(aliases)

@@ -2,7 +2,6 @@
 
 ghost use Rattle.std.specs.HashSet.{contains};
 ghost use Rattle.std.specs.Prelude.{◌≡◌, ◌+◌, IfOk, drop, false, nat_eq, true, ℕ};
-ghost use Rattle.timefd_lint_scan.specs.Aliases.{block_end};
 ghost use Rattle.timefd_lint_scan.specs.Declarations.{is_declared_before};
 ghost use Rattle.timefd_lint_scan.specs.Kept.{IsLayout};
 ghost use Rattle.timefd_lint_scan.specs.Layouts.{fingerprint};
@@ -10,12 +9,11 @@ ghost use Rattle.timefd_lint_scan.specs.Scopes.{is_outside, stays_open};
 ghost use Rattle.timefd_lint_scan.specs.Uses.{is_only};
 ghost use Rattle.timefd_lint_scan.specs.Words.{position_at, text_at, tokens_after};
 
-use crate::alias::block_end;
-use crate::blocks::{begins_of, ends_of};
+use crate::blocks::{TokenPosition, begins_of, ends_of, kept_for};
 use crate::fingerprint::fingerprint;
 use crate::kept::KeptToken;
 use crate::repeated::{Declaring, declares_at, repeated_names};
-use crate::word::{text_at, tokens_after};
+use crate::word::{is_closing, is_opening, position_at, text_at, tokens_after};
 use std::alloc::{AllocError, Global};
 use std::collections::HashSet;
 
@@ -26,10 +24,10 @@ pub struct TokenLayout {
     items: HashSet<u64>,
     /// The fingerprints of names that more than one token may declare.
     variables: HashSet<u64>,
-    /// For each token a position up to which the block that it is in isn't closed.
-    ends: Vec<u32>,
-    /// For each token a position after which no bracket opens that is still open at the token.
-    begins: Vec<u32>,
+    /// For each name that is declared where the block ends that it is in.
+    ends: Vec<TokenPosition>,
+    /// For each name that is declared a position after which no bracket opens that is still open there.
+    begins: Vec<TokenPosition>,
 }
 
 /// What is noted about these tokens. An `Err` says that memory ran out.
@@ -42,8 +40,8 @@ pub fn layout_of(
 {
     let items = repeated_names(alloc, source, pieces, Declaring::Surely)?;
     let variables = repeated_names(alloc, source, pieces, Declaring::Maybe)?;
-    let ends = ends_of(alloc, source, pieces)?;
     let begins = begins_of(alloc, source, pieces)?;
+    let ends = ends_of(alloc, source, pieces, &begins)?;
     Ok(TokenLayout {
         items,
         variables,
@@ -93,6 +91,7 @@ pub fn has_one_variable(
 }
 
 /// Whether the block that a token is in isn't closed before a position; `false` if that isn't certain.
+#[tactic(auto, using(crate::proofs::BlockLemmas::open_up_to))]
 pub fn is_open_at(
     source: &[u8],
     pieces: &[KeptToken],
@@ -103,11 +102,15 @@ pub fn is_open_at(
     requires { IsLayout source.now pieces.now layout.now }
     ensures { result ≡ true → stays_open source.now position 0 (drop index pieces.now) ≡ true }
 {
-    index < layout.ends.len() && position <= layout.ends[index] as usize
+    match kept_for(&layout.ends, index) {
+        Some(end) => position <= end.position as usize,
+        None => false,
+    }
 }
 
 /// Whether the block isn't closed before a position that the token after this one is in; `false` if that isn't
 /// certain.
+#[tactic(auto, using(crate::proofs::LayoutLemmas::open_after))]
 pub fn is_open_after(
     source: &[u8],
     pieces: &[KeptToken],
@@ -118,21 +121,15 @@ pub fn is_open_after(
     requires { IsLayout source.now pieces.now layout.now }
     ensures { result ≡ true → stays_open source.now position 0 (drop (index + 1) pieces.now) ≡ true }
 {
-    index < layout.ends.len() && is_open_at(source, pieces, layout, index + 1, position)
-}
-
-/// Where the block ends that the token after this one begins in.
-pub fn end_after(source: &[u8], pieces: &[KeptToken], layout: &TokenLayout, index: usize) -> usize
-    requires { IsLayout source.now pieces.now layout.now }
-    ensures { result ≡ block_end source.now 0 (tokens_after pieces.now index) }
-{
-    if index < layout.ends.len() && index + 1 < layout.ends.len() {
-        return layout.ends[index + 1] as usize;
-    }
-    block_end(source, tokens_after(pieces, index))
+    let text = text_at(source, pieces, index);
+    !is_opening(text)
+        && !is_closing(text)
+        && position_at(pieces, index) < position
+        && is_open_at(source, pieces, layout, index, position)
 }
 
 /// Whether all brackets that open after a position are closed again at a token; `false` if that isn't certain.
+#[tactic(auto, using(crate::proofs::BeginLemmas::outside_at))]
 pub fn is_outside_at(
     source: &[u8],
     pieces: &[KeptToken],
@@ -143,5 +140,8 @@ pub fn is_outside_at(
     requires { IsLayout source.now pieces.now layout.now }
     ensures { result ≡ true → is_outside source.now from (position_at pieces.now index) 0 pieces.now ≡ true }
 {
-    index < layout.begins.len() && (layout.begins[index] as usize) < from
+    match kept_for(&layout.begins, index) {
+        Some(begin) => (begin.position as usize) < from,
+        None => false,
+    }
 }

@@ -167,7 +167,7 @@ fn seen_in(
 {
     let bytes = source.as_bytes();
     let layout = layout_of(alloc, bytes, pieces)?;
-    let list = aliases_of(alloc, bytes, own, pieces, &layout)?;
+    let list = aliases_of(alloc, bytes, own, pieces)?;
     let notes = notes_of(alloc, bytes, &list)?;
     let aliases = Aliases {
         list: &list,

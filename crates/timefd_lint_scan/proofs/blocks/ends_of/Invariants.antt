@@ -4,10 +4,10 @@ use Rattle.timefd_lint_scan.proofs.blocks.ends_of.Given as goal
 
 abbrev pub invariant-tokens : goal.invariant-tokens
 invariant-tokens l = record {
-  count : length l.ends.items ≡ length l.pieces;
   within : l.left ≤ length l.pieces;
+  counted : l.count ≤ length l.declared;
   closed : l.closings.items ≡ reverse (closings l.source (drop l.left l.pieces));
-  ends : AreEnds l.source l.pieces l.left l.ends.items;
+  ends : AreEnds l.source l.pieces l.ends.items;
 }
 
 abbrev pub decreases-tokens : goal.decreases-tokens
