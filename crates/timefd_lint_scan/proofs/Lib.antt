@@ -22,6 +22,7 @@ pub mod LayoutLemmas
 pub mod TakenLemmas
 pub mod LookLemmas
 pub mod DocTestLemmas
+pub mod StandingLemmas
 pub mod FoundLemmas
 pub mod GrammarLemmas
 pub mod WrittenLemmas
