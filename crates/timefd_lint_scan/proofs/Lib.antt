@@ -26,6 +26,7 @@ pub mod MergeLemmas
 pub mod ExampleLemmas
 pub mod LookLemmas
 pub mod DocTestLemmas
+pub mod StandingLemmas
 pub mod FoundLemmas
 pub mod GrammarLemmas
 pub mod WrittenLemmas
