@@ -1,11 +1,11 @@
 -- Each byte of an example's code is that of the source at its position, or a space.
-use Rattle.std.proofs.Common.{ℕ, ◌≡◌, ◌∙◌, ◌+◌, ◌-◌, ◌<◌, ◌≤◌, List, [], ◌∷◌, ◌++◌, ap, append_assoc, arith, drop, get_or, inl, inr, length, length-append, refl, rules, subst, suc, sym, take, zero}
+use Rattle.std.proofs.Common.{ℕ, ◌≡◌, ◌∙◌, ◌+◌, ◌-◌, ◌<◌, ◌≤◌, List, [], ◌∷◌, ◌++◌, ap, append_assoc, arith, drop, get_or, inl, inr, length, length-append, refl, subst, suc, sym, take, zero}
 use Rattle.std.proofs.Math.Seq.{take-add, take-append_seam}
 use Rattle.std.proofs.lemmas.Bool.{cases_Bool}
 use Rattle.std.proofs.lemmas.Bool.Decides.{nat_tests}
 use Rattle.std.proofs.lemmas.List.{drop-drop, get_or-drop, get_or-take, length-take}
 use Rattle.std.specs.List.{starts_with}
-use Rattle.std.specs.Prelude.{Bool, true, false, not, ◌⊎◌, ⊤, ◌&&◌, ◌||◌, ◌==◌, codes, nat_eq, nat_le, if◌then◌else◌, Option, Some, None}
+use Rattle.std.specs.Prelude.{Bool, true, false, ◌⊎◌, ⊤, ◌&&◌, ◌||◌, ◌==◌, codes, nat_eq, nat_le, if◌then◌else◌, Option, Some, None}
 use Rattle.timefd_lint_scan.specs.declared.doc_tests.before.LineBefore.{LineBefore}
 use Rattle.timefd_lint_scan.specs.declared.doc_tests.line.DocSide.{DocSide}
 use Rattle.timefd_lint_scan.specs.declared.doc_tests.line.DocSide.TheVariants.{Outer, Inner}

@@ -2,7 +2,6 @@ use Rattle.std.proofs.Common.{refl, rules}
 use Rattle.std.specs.Prelude.{map}
 use Rattle.timefd_lint_scan.specs.DocTests.{test_of}
 use Rattle.timefd_lint_scan.proofs.DocTestLemmas.{all_read, one_read}
-use Rattle.timefd_lint_scan.proofs.StandingLemmas.{all_stand}
 use Rattle.timefd_lint_scan.proofs.doc_tests.doc_tests_of.Goals as goal
 
 pub comments-preserved : goal.comments-preserved
