@@ -45,8 +45,7 @@ seen source bytes others own pieces notes given again those marks handed look ar
     ∙ (ap (spec.marks source) (noted ∙ are.noted) ∙ marks_are source are.all))) in
     let all_words : look.comments.items ≡ spec.unknown_marks source are.all =
     words ∙ (ap (λ b. spec.unknown_marks b again) there
-    ∙ (ap (spec.unknown_marks source) (noted_too ∙ are.noted) ∙ words_are source are.all)) in
-    (
+    ∙ (ap (spec.unknown_marks source) (noted_too ∙ are.noted) ∙ words_are source are.all)) in (
       are.all,
       record {
         tokens = are.tokens;

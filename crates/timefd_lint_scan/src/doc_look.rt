@@ -37,7 +37,11 @@ fn together(
     } = alone;
     let shorts = shorts_of(alloc, examples)?;
     let parts = parts_of(alloc, &shorts, descriptions)?;
-    let unread = merged(alloc, calls_of(alloc, examples)?, &longs_of(alloc, examples)?)?;
+    let unread = merged(
+        alloc,
+        calls_of(alloc, examples)?,
+        &longs_of(alloc, examples)?,
+    )?;
     Ok(Look {
         descriptions: described_parts(alloc, source, parts)?,
         calls: merged(alloc, calls, &unread)?,
