@@ -118,7 +118,7 @@ text_stands source c d (Some t) of is = record {
       (subst (λ l. IsSaid source c.piece l d.version) (sym is.dialect) is.said);
 }
 
-begun : (from : ℕ) (d : SourceDescription) → nat_le from (begin_of d) ≡ true → begun_after from (Some d) ≡ Some d
+pub begun : (from : ℕ) (d : SourceDescription) → nat_le from (begin_of d) ≡ true → begun_after from (Some d) ≡ Some d
 begun from d pass = rw pass refl
 
 not_begun : (from : ℕ) (d : SourceDescription) → nat_le from (begin_of d) ≡ false → begun_after from (Some d) ≡ None

@@ -18,10 +18,10 @@ drop_one : (b : ℕ) (text : Text) (n : ℕ) → drop (n + 1) (b ∷ text) ≡ d
 drop_one b text n = let e : n + 1 ≡ suc n = omega arith in ap (λ (k : ℕ). drop k (b ∷ text)) e
 
 -- What follows a run is an end of the text.
-abbrev IsSuffix : Text → Text → Type 0
+abbrev pub IsSuffix : Text → Text → Type 0
 IsSuffix text rest = (n : ℕ) × (rest ≡ drop n text)
 
-run_is_suffix : (test : ℕ → Bool) (text : Text) → IsSuffix text (after_run test text)
+pub run_is_suffix : (test : ℕ → Bool) (text : Text) → IsSuffix text (after_run test text)
 run_is_suffix test [] = (0, refl)
 run_is_suffix test (b ∷ text) = elim (cases_Bool (test b)) [
   | inl pass ↦ let more : IsSuffix text (after_run test text) = run_is_suffix test text in
@@ -29,7 +29,7 @@ run_is_suffix test (b ∷ text) = elim (cases_Bool (test b)) [
   | inr fail ↦ (0, rw fail refl)
 ]
 
-abbrev CutTo : Text → PlacedToken → Text → Type 0
+abbrev pub CutTo : Text → PlacedToken → Text → Type 0
 CutTo source p literal = (p.start ≤ p.end) × (p.end ≤ length source)
     × (literal ≡ take (p.end - p.start) (drop p.start source))
 
@@ -43,7 +43,7 @@ chosen : (b : Bool) (x y : Text) → cond b (Some x) None ≡ Some y → (b ≡ 
 chosen true x y e = (refl, cc)
 chosen false x y e = absurd cc
 
-cut_to : (source : Text) (p : PlacedToken) (literal : Text) → cut source p ≡ Some literal → CutTo source p literal
+pub cut_to : (source : Text) (p : PlacedToken) (literal : Text) → cut source p ≡ Some literal → CutTo source p literal
 cut_to source p literal e =
     let is = chosen (nat_le p.start p.end && nat_le p.end (length source)) (take (p.end - p.start) (drop p.start source)) literal e in
     let tests = both_true (nat_le p.start p.end) (nat_le p.end (length source)) is.0 in

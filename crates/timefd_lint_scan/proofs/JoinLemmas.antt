@@ -1,6 +1,7 @@
 -- Descriptions of a source and of its examples, in order.
-use Rattle.std.proofs.Common.{ℕ, ◌≡◌, ◌∙◌, ◌++◌, List, [], ◌∷◌, ap, append-nil, append_assoc, false, true, inl, inr, map, nat_le, refl, subst, sym}
+use Rattle.std.proofs.Common.{ℕ, ◌≡◌, ◌∙◌, ◌++◌, List, [], ◌∷◌, ap, append-nil, append_assoc, arith, false, true, inl, inr, map, nat_le, refl, subst, sym}
 use Rattle.std.proofs.lemmas.Bool.{cases_Bool}
+use Rattle.std.proofs.lemmas.Bool.Decides.{nat_tests}
 use Rattle.std.proofs.lemmas.List.Elements.{All-cons, All-head, All-nil, All-tail}
 use Rattle.std.specs.Option.{option_to_list}
 use Rattle.std.specs.Prelude.{Option, Some, None, ⊤}
@@ -11,7 +12,7 @@ use Rattle.timefd_lint_scan.specs.declared.doc_look.joining.Part.TheVariants.{Of
 use Rattle.timefd_lint_scan.specs.Bytes.{Text}
 use Rattle.timefd_lint_scan.specs.DocLooks.{AreJoined, IsEither, after_front, begins_before, by_position, front}
 use Rattle.timefd_lint_scan.specs.Found.{AllStandIn, AreInOrder, StandsIn, begin_of, begun_after, end_after}
-use Rattle.timefd_lint_scan.proofs.CandidateLemmas.{in_order_more, stands_more}
+use Rattle.timefd_lint_scan.proofs.CandidateLemmas.{begun, in_order_more, stands_more}
 
 -- A description of the source stands in it.
 abbrev pub PartStands : Text → Part → Type 0
@@ -143,3 +144,19 @@ pub at_last : (source : Text) (parts : List Part) (end : ℕ) (so_far : List Sou
 at_last source parts end so_far are =
     subst (λ xs. AreJoined source 0 xs so_far) (append-nil parts)
     (subst (AreJoined source 0 (parts ++ [])) (append-nil so_far) (are.others [] [] refl))
+
+-- Descriptions in order are joined with no others.
+pub own_joined : (source : Text) (from : ℕ) (ds : List SourceDescription) → AreInOrder from ds
+    → AreJoined source from (map OfSource ds) ds
+own_joined source from [] in_order = refl
+own_joined source from (d ∷ ds) in_order = elim (cases_Bool (nat_le from (begin_of d))) [
+  | inl pass ↦
+      let is : begun_after from (Some d) ≡ Some d = begun from d pass in (
+        Some d,
+        ds,
+        refl,
+        subst (λ o. AreJoined source (end_after from o) (map OfSource ds) ds) (sym is) (own_joined source d.piece.end ds in_order.1),
+        ap (λ o. option_to_list o ++ ds) (sym is),
+      )
+  | inr fail ↦ absurd (grind (arith, nat_tests, in_order.0))
+]

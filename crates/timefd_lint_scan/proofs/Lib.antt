@@ -25,6 +25,8 @@ pub mod GivenLemmas
 pub mod MergeLemmas
 pub mod ExampleLemmas
 pub mod LookLemmas
+pub mod FenceLemmas
+pub mod DocLookLemmas
 pub mod DocTestLemmas
 pub mod StandingLemmas
 pub mod FoundLemmas

@@ -3,7 +3,7 @@ use Rattle.std.proofs.Common.{ℕ, ◌≡◌, ◌∙◌, ◌++◌, List, [], ◌
 use Rattle.std.proofs.lemmas.Bool.{cases_Bool}
 use Rattle.timefd_lint_scan.specs.DocLooks.{after_front, front, is_below, merged}
 
-none_more : (xs : List ℕ) → merged xs [] ≡ xs
+pub none_more : (xs : List ℕ) → merged xs [] ≡ xs
 none_more [] = refl
 none_more (x ∷ xs) = refl
 

@@ -21,6 +21,7 @@ use crate::own_call::OwnCall;
 use std::alloc::{AllocError, Global};
 
 /// What is seen in a source by itself and in its examples, as one. An `Err` says that memory ran out.
+#[tactic(auto, using(crate::proofs::DocLookLemmas::are_together))]
 fn together(
     alloc: Global,
     source: &str,
@@ -50,6 +51,7 @@ fn together(
 
 /// Looks for descriptions in a source and in the examples of its doc comments, with these calls of its project. An `Err`
 /// says that memory ran out, or that the source has 4 GiB or more.
+#[tactic(auto, using(crate::proofs::DocLookLemmas::without_examples, crate::proofs::DocLookLemmas::with_examples))]
 pub fn looked_at(alloc: Global, source: &str, own: &[OwnCall]) -> Result<Look, AllocError>
     ensures { IfOk result (IsLook source.now own.now) }
 {
