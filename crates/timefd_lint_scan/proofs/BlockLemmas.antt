@@ -95,14 +95,18 @@ last_is ns (n ∷ st) other same =
     unwrap_or-slice_get ns (length ns - 1) other
     ∙ (ap (λ l. get_or l (length ns - 1) other) here ∙ get_or_push (reverse st) n other (length ns - 1) place)
 
+pub split_at : (ps : List PlacedToken) (n left : ℕ) (p other : PlacedToken) → n + 1 ≡ left → n < length ps → p ≡ get_or ps n other
+    → drop n ps ≡ p ∷ drop left ps
+split_at ps n left p other next below at =
+    drop_more ps n other below ∙ (ap (λ x. x ∷ drop (n + 1) ps) (sym at) ∙ ap (λ k. p ∷ drop k ps) next)
+
 -- one token more, from the back
 pub one_back : (source : Text) (ps : List PlacedToken) (n left : ℕ) (p other : PlacedToken) (before now : List ℕ) → n + 1 ≡ left
     → n < length ps → p ≡ get_or ps n other → before ≡ reverse (closings source (drop left ps))
     → ((st : List ℕ) → before ≡ reverse st → now ≡ reverse (closings_before source p st))
     → now ≡ reverse (closings source (drop n ps))
 one_back source ps n left p other before now next below at was passed =
-    let split : drop n ps ≡ p ∷ drop left ps =
-    drop_more ps n other below ∙ (ap (λ x. x ∷ drop (n + 1) ps) (sym at) ∙ ap (λ k. p ∷ drop k ps) next) in
+    let split : drop n ps ≡ p ∷ drop left ps = split_at ps n left p other next below at in
     passed (closings source (drop left ps)) was ∙ ap (λ l. reverse (closings source l)) (sym split)
 
 -- Up to the position that is kept for a token, its block is open.

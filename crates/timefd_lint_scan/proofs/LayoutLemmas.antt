@@ -180,7 +180,7 @@ pub open_after : (source : Text) (position : ℕ) (ps : List PlacedToken) (index
     → is_closing (text_at source ps index) ≡ false → position_at ps index < position
     → stays_open source position 0 (drop index ps) ≡ true → stays_open source position 0 (drop (index + 1) ps) ≡ true
 open_after source position [] zero none closes before opened = refl
-open_after source position [] (suc index) none closes before opened = refl
+open_after source position [] (suc index) none closes before opened = rw (suc-add) refl
 open_after source position (p ∷ ps) zero none closes before opened =
     let late : nat_le position p.start ≡ false = grind (arith, nat_tests, before) in
     rw (late, none, closes) at opened
