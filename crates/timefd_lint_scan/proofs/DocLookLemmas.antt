@@ -1,5 +1,7 @@
 -- What is seen in a source and in its examples.
 use Rattle.std.proofs.Common.{ℕ, ◌≡◌, ◌∙◌, List, [], ap, flat_map, inr, refl, subst, sym}
+use Rattle.std.specs.declared.alloc.AllocError.{AllocError}
+use Rattle.std.specs.Prelude.{IfOk, Result, Ok, Err}
 use Rattle.timefd_lint_scan.specs.declared.candidate.CandidateLiteral.{CandidateLiteral}
 use Rattle.timefd_lint_scan.specs.declared.doc_look.example.SeenExample.{SeenExample}
 use Rattle.timefd_lint_scan.specs.declared.doc_look.joining.Part.{Part}
@@ -32,16 +34,17 @@ are_together source alone seen shorts literals parts calls longs others unread l
       comments = merged_words ∙ ap (merged alone.comments.items) (given ∙ said);
     }
 
-pub with_examples : (source : Text) (own : List OwnCall) (alone look : Look) (seen given : List SeenExample)
-    → IsSeenAlone source own alone → AreSeenExamples source own seen → given ≡ seen → IsTogether source alone given look
-    → IsLook source own look
-with_examples source own alone look seen given by_itself examples same together = inr (record {
+pub with_examples : (source : Text) (own : List OwnCall) (alone : Look) (seen given : List SeenExample) (answer : Result Look AllocError)
+    → IsSeenAlone source own alone → AreSeenExamples source own seen → given ≡ seen → IfOk answer (IsTogether source alone given)
+    → IfOk answer (IsLook source own)
+with_examples source own alone seen given (Ok look) by_itself examples same together = inr (record {
   alone = alone;
   by_itself = by_itself;
   seen = seen;
   examples = examples;
   together = subst (λ s. IsTogether source alone s look) same together;
 })
+with_examples source own alone seen given (Err e) by_itself examples same together = together
 
 -- What is seen in a source that has no examples is all.
 pub without_examples : (source bytes : Text) (own : List OwnCall) (look : Look) → IsSeenAlone source own look → bytes ≡ source

@@ -1,5 +1,5 @@
 -- A source without a fence has no examples.
-use Rattle.std.proofs.Common.{ℕ, zero, suc, ◌≡◌, ◌∙◌, ◌+◌, ◌-◌, ◌<◌, ◌≤◌, ◌&&◌, ◌⊎◌, ◌++◌, Bool, true, false, not, List, [], ◌∷◌, ap, arith, codes, drop, get_or, inl, inr, length, nat_lt, refl, subst, sym, take}
+use Rattle.std.proofs.Common.{ℕ, zero, suc, ◌≡◌, ◌∙◌, ◌+◌, ◌-◌, ◌<◌, ◌≤◌, ◌&&◌, ◌⊎◌, ◌++◌, Bool, true, false, not, List, [], ◌∷◌, ap, arith, codes, drop, get_or, inl, inr, length, nat_lt, refl, subst, sym}
 use Rattle.std.proofs.lemmas.Bool.{cases_Bool, eqb-true}
 use Rattle.std.proofs.lemmas.Bool.Decides.{nat_tests}
 use Rattle.std.proofs.lemmas.List.{get_or-drop, get_or-take, length-drop, length-take}

@@ -1,5 +1,5 @@
 -- Two ascending lists as one.
-use Rattle.std.proofs.Common.{ℕ, ◌≡◌, ◌∙◌, ◌++◌, List, [], ◌∷◌, ap, append_assoc, append-nil, false, true, inl, inr, refl, sym}
+use Rattle.std.proofs.Common.{ℕ, ◌≡◌, ◌∙◌, ◌++◌, List, [], ◌∷◌, ap, append_assoc, append-nil, inl, inr, refl, sym}
 use Rattle.std.proofs.lemmas.Bool.{cases_Bool}
 use Rattle.timefd_lint_scan.specs.DocLooks.{after_front, front, is_below, merged}
 

@@ -51,7 +51,7 @@ fn together(
 
 /// Looks for descriptions in a source and in the examples of its doc comments, with these calls of its project. An `Err`
 /// says that memory ran out, or that the source has 4 GiB or more.
-#[tactic(auto, using(crate::proofs::DocLookLemmas::without_examples, crate::proofs::DocLookLemmas::with_examples))]
+#[tactic(auto, using(crate::proofs::DocLookLemmas::without_examples))]
 pub fn looked_at(alloc: Global, source: &str, own: &[OwnCall]) -> Result<Look, AllocError>
     ensures { IfOk result (IsLook source.now own.now) }
 {
