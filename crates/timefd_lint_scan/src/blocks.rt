@@ -76,7 +76,11 @@ pub fn end_by(closings: &[u32], source: &[u8]) -> usize
 }
 
 /// The closing brackets of blocks around a token, the next one last, by those of the token after it.
-pub fn pass_back(closings: &mut Vec<u32>, source: &[u8], piece: &KeptToken) -> Result<(), AllocError>
+pub fn pass_back(
+    closings: &mut Vec<u32>,
+    source: &[u8],
+    piece: &KeptToken,
+) -> Result<(), AllocError>
     ensures { OnOk result ((st : List ℕ) → closings.old.items ≡ reverse st
         → closings.new.items ≡ reverse (spec.closings_before source.now piece.now st)) }
 {
