@@ -91,7 +91,6 @@ pub fn has_one_variable(
 }
 
 /// Whether the block that a token is in isn't closed before a position; `false` if that isn't certain.
-#[tactic(auto, using(crate::proofs::BlockLemmas::open_up_to))]
 pub fn is_open_at(
     source: &[u8],
     pieces: &[KeptToken],
@@ -122,14 +121,13 @@ pub fn is_open_after(
     ensures { result ≡ true → stays_open source.now position 0 (drop (index + 1) pieces.now) ≡ true }
 {
     let text = text_at(source, pieces, index);
-    !is_opening(text)
-        && !is_closing(text)
-        && position_at(pieces, index) < position
-        && is_open_at(source, pieces, layout, index, position)
+    if is_opening(text) || is_closing(text) || position <= position_at(pieces, index) {
+        return false;
+    }
+    is_open_at(source, pieces, layout, index, position)
 }
 
 /// Whether all brackets that open after a position are closed again at a token; `false` if that isn't certain.
-#[tactic(auto, using(crate::proofs::BeginLemmas::outside_at))]
 pub fn is_outside_at(
     source: &[u8],
     pieces: &[KeptToken],

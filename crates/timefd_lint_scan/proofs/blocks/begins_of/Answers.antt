@@ -1,4 +1,4 @@
-use Rattle.std.proofs.Common.{◌≡◌, ◌<◌, ◌≤◌, ◌∙◌, ◌+◌, arith, get_or, length, refl, rules, subst, sym}
+use Rattle.std.proofs.Common.{◌≡◌, ◌<◌, ◌≤◌, ◌∙◌, ◌+◌, arith, length, refl, rules, subst, sym}
 use Rattle.timefd_lint_scan.proofs.BeginLemmas.{AreSoFar, begin_more, one_more}
 use Rattle.timefd_lint_scan.proofs.blocks.begins_of.Goals as goal
 use Rattle.timefd_lint_scan.proofs.blocks.begins_of.Goals.{then-is_declared+in_ok-push, else-is_declared}

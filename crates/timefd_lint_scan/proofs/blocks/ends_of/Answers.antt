@@ -1,4 +1,4 @@
-use Rattle.std.proofs.Common.{◌∙◌, ◌+◌, ◌-◌, ◌≡◌, arith, rules}
+use Rattle.std.proofs.Common.{◌∙◌, ◌+◌, ◌-◌, ◌≡◌, arith}
 use Rattle.timefd_lint_scan.proofs.BlockLemmas.{end_more, one_back}
 use Rattle.timefd_lint_scan.proofs.blocks.ends_of.Goals as goal
 
