@@ -63,8 +63,11 @@ pub record Stands (source : Text) (start : ℕ) (code : Text) : Type 0 where
 
 pub stands_at : (source : Text) (start : ℕ) (code : Text) → Stands source start code → StandsAt source start code
 stands_at source start code it i below =
-    let few : length code ≤ it.count = omega (arith, covers_length code (take it.count (drop start source)) it.covers,
-        length-take it.count (drop start source)) in
+    let few : length code ≤ it.count = omega (
+      arith,
+      covers_length code (take it.count (drop start source)) it.covers,
+      length-take it.count (drop start source),
+    ) in
     let within : i < it.count = omega (arith, below, few) in
     subst (λ (b : ℕ). (get_or code i 0 ≡ 32) ⊎ (get_or code i 0 ≡ b))
     (get_or-take it.count (drop start source) i 0 within ∙ get_or-drop start source i 0)
@@ -185,14 +188,14 @@ follows : (source : Text) (b : LineBefore) (line : Line) → is_line source (Som
 follows source b line so =
     let goes : goes_on source b line ≡ true = it_goes (goes_on source b line) (is_in_example (place_next source (Some b) line)) b.place so in
     let after : nat_le b.end line.piece.start ≡ true =
-        the_second (is_same b.side line.side) (nat_le b.end line.piece.start)
-        (length (after_run is_white (gap source (Some b) line)) == 0) goes in
+    the_second (is_same b.side line.side) (nat_le b.end line.piece.start)
+    (length (after_run is_white (gap source (Some b) line)) == 0) goes in
     grind (arith, nat_tests, after)
 
 line_stands : (source : Text) (b : LineBefore) (c : PlacedToken) (comment code : Text) → IsCut source c comment → b.end ≤ c.start
     → Stands source c.end code
     → Stands source b.end
-      (take (c.start - b.end) (drop b.end source) ++ (32 ∷ 32 ∷ 32 ∷ [] ++ code_of (drop 3 comment) ++ code))
+    (take (c.start - b.end) (drop b.end source) ++ (32 ∷ 32 ∷ 32 ∷ [] ++ code_of (drop 3 comment) ++ code))
 line_stands source b c comment code is after rest =
     stands_append source (take (c.start - b.end) (drop b.end source)) (32 ∷ 32 ∷ 32 ∷ [] ++ code_of (drop 3 comment) ++ code)
     b.end c.start (c.start - b.end) (omega (arith, after)) (covers_same (take (c.start - b.end) (drop b.end source)))
@@ -243,7 +246,7 @@ tests_stand : (source : Text) (before : Option LineBefore) (cs : List PlacedToke
 tests_stand source before [] = tt
 tests_stand source before (c ∷ cs) =
     by_cut (λ (x : Option Line). AllStand source (opened_in source before x (code_from source (after_comment source before x) cs)
-        ++ tests_from source (after_comment source before x) cs))
+    ++ tests_from source (after_comment source before x) cs))
     source c (tests_stand source None cs)
     (λ side comment is. one_stands (opens source before (line_at c side comment)) source
     (code_from source (Some (next_at source before c side comment)) cs) c.end
