@@ -4,7 +4,7 @@ use Rattle.std.specs.declared.alloc.AllocError.{AllocError}
 use Rattle.std.specs.Prelude.{IfOk, Result, Ok, Err}
 use Rattle.timefd_lint_scan.specs.declared.candidate.CandidateLiteral.{CandidateLiteral}
 use Rattle.timefd_lint_scan.specs.declared.doc_look.example.SeenExample.{SeenExample}
-use Rattle.timefd_lint_scan.specs.declared.doc_look.joining.Part.{Part}
+use Rattle.timefd_lint_scan.specs.declared.doc_look.joining.LookPart.{LookPart}
 use Rattle.timefd_lint_scan.specs.declared.look.Look.{Look}
 use Rattle.timefd_lint_scan.specs.declared.own_call.OwnCall.{OwnCall}
 use Rattle.timefd_lint_scan.specs.Bytes.{Text}
@@ -18,7 +18,7 @@ use Rattle.timefd_lint_scan.proofs.FenceLemmas.{no_example}
 use Rattle.timefd_lint_scan.proofs.JoinLemmas.{own_joined}
 use Rattle.timefd_lint_scan.proofs.MergeLemmas.{none_more}
 
-pub are_together : (source : Text) (alone : Look) (seen : List SeenExample) (shorts literals : List CandidateLiteral) (parts : List Part)
+pub are_together : (source : Text) (alone : Look) (seen : List SeenExample) (shorts literals : List CandidateLiteral) (parts : List LookPart)
     (calls longs others unread left words notes : List ℕ) (look : Look) → shorts ≡ flat_map short_in seen → literals ≡ shorts
     → parts ≡ by_position literals alone.descriptions.items → AreJoined source 0 parts look.descriptions.items
     → calls ≡ flat_map calls_in seen → longs ≡ flat_map long_in seen → others ≡ longs → unread ≡ merged calls others

@@ -7,19 +7,19 @@ use Rattle.std.specs.Option.{option_to_list}
 use Rattle.std.specs.Prelude.{Option, Some, ⊤}
 use Rattle.timefd_lint_scan.specs.declared.candidate.CandidateLiteral.{CandidateLiteral}
 use Rattle.timefd_lint_scan.specs.declared.description.SourceDescription.{SourceDescription}
-use Rattle.timefd_lint_scan.specs.declared.doc_look.joining.Part.{Part}
-use Rattle.timefd_lint_scan.specs.declared.doc_look.joining.Part.TheVariants.{OfExample, OfSource}
+use Rattle.timefd_lint_scan.specs.declared.doc_look.joining.LookPart.{LookPart}
+use Rattle.timefd_lint_scan.specs.declared.doc_look.joining.LookPart.TheVariants.{OfExample, OfSource}
 use Rattle.timefd_lint_scan.specs.Bytes.{Text}
 use Rattle.timefd_lint_scan.specs.DocLooks.{AreJoined, IsEither, after_front, begins_before, by_position, front}
 use Rattle.timefd_lint_scan.specs.Found.{AllStandIn, AreInOrder, StandsIn, begin_of, begun_after, end_after}
 use Rattle.timefd_lint_scan.proofs.CandidateLemmas.{begun, in_order_more, stands_more}
 
 -- A description of the source stands in it.
-abbrev pub PartStands : Text → Part → Type 0
+abbrev pub PartStands : Text → LookPart → Type 0
 PartStands source (OfExample c) = ⊤
 PartStands source (OfSource d) = StandsIn source d
 
-abbrev pub PartsStand : Text → List Part → Type 0
+abbrev pub PartsStand : Text → List LookPart → Type 0
 PartsStand source [] = ⊤
 PartsStand source (x ∷ xs) = PartStands source x × PartsStand source xs
 
@@ -49,7 +49,7 @@ own_stands_more source from d rest stands all = elim (cases_Bool (nat_le from (b
   | inr fail ↦ rw fail all
 ]
 
-part_stands_more : (source : Text) (from : ℕ) (x : Part) (answer : Option SourceDescription) (rest : List SourceDescription)
+part_stands_more : (source : Text) (from : ℕ) (x : LookPart) (answer : Option SourceDescription) (rest : List SourceDescription)
     → PartStands source x → IsEither source x answer → AllStandIn source rest
     → AllStandIn source (option_to_list (begun_after from answer) ++ rest)
 part_stands_more source from (OfExample c) answer rest stands is all = stands_more source from c answer rest is all
@@ -57,7 +57,7 @@ part_stands_more source from (OfSource d) answer rest stands is all =
     subst (λ a. AllStandIn source (option_to_list (begun_after from a) ++ rest)) (sym is)
     (own_stands_more source from d rest stands all)
 
-pub joined_stand : (source : Text) (from : ℕ) (xs : List Part) (found : List SourceDescription) → PartsStand source xs
+pub joined_stand : (source : Text) (from : ℕ) (xs : List LookPart) (found : List SourceDescription) → PartsStand source xs
     → AreJoined source from xs found → AllStandIn source found
 joined_stand source from [] found stand none = subst (AllStandIn source) (sym none) (All-nil (StandsIn source))
 joined_stand source from (x ∷ xs) found stand (answer, rest, is, more, split) =
@@ -65,7 +65,7 @@ joined_stand source from (x ∷ xs) found stand (answer, rest, is, more, split) 
     (part_stands_more source from x answer rest stand.0 is
     (joined_stand source (end_after from (begun_after from answer)) xs rest stand.1 more))
 
-pub joined_in_order : (source : Text) (from : ℕ) (xs : List Part) (found : List SourceDescription)
+pub joined_in_order : (source : Text) (from : ℕ) (xs : List LookPart) (found : List SourceDescription)
     → AreJoined source from xs found → AreInOrder from found
 joined_in_order source from [] found none = subst (AreInOrder from) (sym none) tt
 joined_in_order source from (x ∷ xs) found (answer, rest, is, more, split) =
@@ -88,7 +88,7 @@ none_more [] = refl
 none_more (c ∷ cs) = refl
 
 -- Of the descriptions these are placed, and of the literals these are left.
-pub record ArePlaced (cs : List CandidateLiteral) (placed : List SourceDescription) (left : List CandidateLiteral) (parts : List Part)
+pub record ArePlaced (cs : List CandidateLiteral) (placed : List SourceDescription) (left : List CandidateLiteral) (parts : List LookPart)
     : Type 0 where
   pub others : (ds : List SourceDescription) → parts ++ by_position left ds ≡ by_position cs (placed ++ ds)
 
@@ -96,13 +96,13 @@ pub none_placed : (cs : List CandidateLiteral) → ArePlaced cs [] cs []
 none_placed cs = record { others = λ ds. refl }
 
 pub one_placed : (cs before left : List CandidateLiteral) (placed : List SourceDescription) (d : SourceDescription)
-    (parts pushed now : List Part) → pushed ≡ parts ++ map OfExample (front (begins_before d.piece.start) before)
+    (parts pushed now : List LookPart) → pushed ≡ parts ++ map OfExample (front (begins_before d.piece.start) before)
     → left ≡ after_front (begins_before d.piece.start) before → now ≡ pushed ++ OfSource d ∷ []
     → ArePlaced cs placed before parts → ArePlaced cs (placed ++ d ∷ []) left now
 one_placed cs before left placed d parts pushed now more after last so_far = record {
   others = λ ds.
-      let from : List CandidateLiteral → List Part = λ l. OfSource d ∷ by_position l ds in
-      let literals : List Part = map OfExample (front (begins_before d.piece.start) before) in
+      let from : List CandidateLiteral → List LookPart = λ l. OfSource d ∷ by_position l ds in
+      let literals : List LookPart = map OfExample (front (begins_before d.piece.start) before) in
       ap (λ xs. xs ++ by_position left ds) last
       ∙ (append_assoc pushed (OfSource d ∷ []) (by_position left ds)
       ∙ (ap (λ xs. xs ++ from left) more
@@ -113,20 +113,20 @@ one_placed cs before left placed d parts pushed now more after last so_far = rec
 }
 
 -- The literals that are left come last.
-pub all_placed : (cs left : List CandidateLiteral) (ds : List SourceDescription) (parts now : List Part)
+pub all_placed : (cs left : List CandidateLiteral) (ds : List SourceDescription) (parts now : List LookPart)
     → now ≡ parts ++ map OfExample left → ArePlaced cs ds left parts → now ≡ by_position cs ds
 all_placed cs left ds parts now pushed so_far =
     pushed ∙ (ap (λ xs. parts ++ xs) (sym (none_more left)) ∙ (so_far.others [] ∙ ap (by_position cs) (append-nil ds)))
 
 -- What is found among these parts, followed by what is found after them, is all that there is.
-pub record AreSoFar (source : Text) (parts : List Part) (end : ℕ) (so_far : List SourceDescription) : Type 0 where
-  pub others : (more : List Part) (rest : List SourceDescription) → AreJoined source end more rest
+pub record AreSoFar (source : Text) (parts : List LookPart) (end : ℕ) (so_far : List SourceDescription) : Type 0 where
+  pub others : (more : List LookPart) (rest : List SourceDescription) → AreJoined source end more rest
       → AreJoined source 0 (parts ++ more) (so_far ++ rest)
 
 pub at_first : (source : Text) → AreSoFar source [] 0 []
 at_first source = record { others = λ more rest joined. joined }
 
-pub one_described : (source : Text) (parts : List Part) (x : Part) (answer : Option SourceDescription) (end next : ℕ)
+pub one_described : (source : Text) (parts : List LookPart) (x : LookPart) (answer : Option SourceDescription) (end next : ℕ)
     (so_far now : List SourceDescription) → IsEither source x answer
     → now ≡ so_far ++ option_to_list (begun_after end answer) → next ≡ end_after end (begun_after end answer)
     → AreSoFar source parts end so_far → AreSoFar source (parts ++ x ∷ []) next now
@@ -139,7 +139,7 @@ one_described source parts x answer end next so_far now is pushed ends are = rec
       (answer, rest, is, subst (λ (n : ℕ). AreJoined source n more rest) ends joined, refl)));
 }
 
-pub at_last : (source : Text) (parts : List Part) (end : ℕ) (so_far : List SourceDescription) → AreSoFar source parts end so_far
+pub at_last : (source : Text) (parts : List LookPart) (end : ℕ) (so_far : List SourceDescription) → AreSoFar source parts end so_far
     → AreJoined source 0 parts so_far
 at_last source parts end so_far are =
     subst (λ xs. AreJoined source 0 xs so_far) (append-nil parts)

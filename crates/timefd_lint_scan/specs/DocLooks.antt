@@ -7,8 +7,8 @@ use Rattle.timefd_lint_scan.specs.declared.candidate.CandidateLiteral.{Candidate
 use Rattle.timefd_lint_scan.specs.declared.class.ByteSet.TheVariants.{Line}
 use Rattle.timefd_lint_scan.specs.declared.description.SourceDescription.{SourceDescription}
 use Rattle.timefd_lint_scan.specs.declared.doc_look.example.SeenExample.{SeenExample}
-use Rattle.timefd_lint_scan.specs.declared.doc_look.joining.Part.{Part}
-use Rattle.timefd_lint_scan.specs.declared.doc_look.joining.Part.TheVariants.{OfExample, OfSource}
+use Rattle.timefd_lint_scan.specs.declared.doc_look.joining.LookPart.{LookPart}
+use Rattle.timefd_lint_scan.specs.declared.doc_look.joining.LookPart.TheVariants.{OfExample, OfSource}
 use Rattle.timefd_lint_scan.specs.declared.doc_tests.DocTest.{DocTest}
 use Rattle.timefd_lint_scan.specs.declared.look.Look.{Look}
 use Rattle.timefd_lint_scan.specs.declared.own_call.OwnCall.{OwnCall}
@@ -124,19 +124,19 @@ abbrev pub is_below : ℕ → ℕ → Bool
 is_below limit position = nat_lt position limit
 
 -- literals of examples and descriptions of the source itself, by where they begin
-abbrev pub by_position : List CandidateLiteral → List SourceDescription → List Part
+abbrev pub by_position : List CandidateLiteral → List SourceDescription → List LookPart
 by_position [] ds = map OfSource ds
 by_position (c ∷ cs) [] = map OfExample (c ∷ cs)
 by_position (c ∷ cs) (d ∷ ds) =
     if begins_before d.piece.start c then OfExample c ∷ by_position cs (d ∷ ds) else OfSource d ∷ by_position (c ∷ cs) ds
 
 -- what each of them is: a literal may be no description
-abbrev pub IsEither : Text → Part → Option SourceDescription → Type 0
+abbrev pub IsEither : Text → LookPart → Option SourceDescription → Type 0
 IsEither source (OfExample c) answer = IsDescribed source c answer
 IsEither source (OfSource d) answer = answer ≡ Some d
 
 -- The descriptions among them, without those that begin inside of another one.
-abbrev pub AreJoined : Text → ℕ → List Part → List SourceDescription → Type 0
+abbrev pub AreJoined : Text → ℕ → List LookPart → List SourceDescription → Type 0
 AreJoined source from [] all = all ≡ []
 AreJoined source from (x ∷ xs) all =
     (answer : Option SourceDescription) × (rest : List SourceDescription) × IsEither source x answer

@@ -224,7 +224,7 @@ pub fn seen_alone(alloc: Global, source: &str, own: &[OwnCall]) -> Result<Look, 
     })
 }
 
-/// The same, but nothing is looked for in a source that has none of the names that descriptions come with.
+/// Looks for descriptions in a source without its examples, but only if it has one of the names that descriptions come with.
 pub fn look_of(alloc: Global, source: &str, own: &[OwnCall]) -> Result<Look, AllocError>
     ensures { IfOk result (IsLookAlone source.now own.now) }
 {

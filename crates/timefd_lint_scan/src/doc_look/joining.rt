@@ -1,7 +1,7 @@
 //! Descriptions of a source and of its examples, in order.
 
 ghost use Rattle.std.specs.Prelude.{◌≡◌, ◌++◌, IfOk, OnOk, map};
-ghost use Rattle.timefd_lint_scan.specs.declared.doc_look.joining.Part.TheVariants.{OfExample};
+ghost use Rattle.timefd_lint_scan.specs.declared.doc_look.joining.LookPart.TheVariants.{OfExample};
 ghost use Rattle.timefd_lint_scan.specs.DocLooks.{AreJoined, IsEither, after_front, begins_before, by_position, front};
 
 use crate::candidate::CandidateLiteral;
@@ -10,14 +10,14 @@ use std::alloc::{AllocError, Global};
 
 /// A literal of an example, or a description of the source itself.
 #[derive(Drop)]
-pub enum Part {
+pub enum LookPart {
     OfExample(CandidateLiteral),
     OfSource(SourceDescription),
 }
 
 // Adds the literals that begin before a position. Returns the others.
 fn push_before<'a>(
-    parts: &mut Vec<Part>,
+    parts: &mut Vec<LookPart>,
     candidates: &'a [CandidateLiteral],
     position: usize,
 ) -> Result<&'a [CandidateLiteral], AllocError>
@@ -29,19 +29,19 @@ fn push_before<'a>(
         if !(candidate.piece.start < position) {
             return Ok(left);
         }
-        parts.push(Part::OfExample(*candidate))?;
+        parts.push(LookPart::OfExample(*candidate))?;
         left = after;
     }
     Ok(left)
 }
 
 // Adds these literals.
-fn push_all(parts: &mut Vec<Part>, candidates: &[CandidateLiteral]) -> Result<(), AllocError>
+fn push_all(parts: &mut Vec<LookPart>, candidates: &[CandidateLiteral]) -> Result<(), AllocError>
     ensures { OnOk result (parts.new.items ≡ parts.old.items ++ map OfExample candidates.now) }
 {
     let mut left = candidates;
     'candidates: while let [candidate, after @ ..] = left {
-        parts.push(Part::OfExample(*candidate))?;
+        parts.push(LookPart::OfExample(*candidate))?;
         left = after;
     }
     Ok(())
@@ -53,14 +53,14 @@ pub fn parts_of(
     alloc: Global,
     candidates: &[CandidateLiteral],
     own: Vec<SourceDescription>,
-) -> Result<Vec<Part>, AllocError>
+) -> Result<Vec<LookPart>, AllocError>
     ensures { IfOk result (λ parts. parts.items ≡ by_position candidates.now own.items) }
 {
     let mut parts = Vec::new(alloc);
     let mut left = candidates;
     for description in own {
         left = push_before(&mut parts, left, description.piece.start)?;
-        parts.push(Part::OfSource(description))?;
+        parts.push(LookPart::OfSource(description))?;
     }
     push_all(&mut parts, left)?;
     Ok(parts)
@@ -69,13 +69,13 @@ pub fn parts_of(
 fn described_part(
     alloc: Global,
     source: &str,
-    part: Part,
+    part: LookPart,
 ) -> Result<Option<SourceDescription>, AllocError>
     ensures { IfOk result (IsEither source.now part) }
 {
     match part {
-        Part::OfExample(candidate) => described_any(alloc, source, Some(candidate)),
-        Part::OfSource(description) => Ok(Some(description)),
+        LookPart::OfExample(candidate) => described_any(alloc, source, Some(candidate)),
+        LookPart::OfSource(description) => Ok(Some(description)),
     }
 }
 
@@ -84,7 +84,7 @@ fn described_part(
 pub fn described_parts(
     alloc: Global,
     source: &str,
-    parts: Vec<Part>,
+    parts: Vec<LookPart>,
 ) -> Result<Vec<SourceDescription>, AllocError>
     ensures { IfOk result (λ found. AreJoined source.now 0 parts.items found.items) }
 {

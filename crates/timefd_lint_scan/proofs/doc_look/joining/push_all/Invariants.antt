@@ -1,5 +1,5 @@
 use Rattle.std.proofs.Common.{◌≡◌, ◌++◌, length, map}
-use Rattle.timefd_lint_scan.specs.declared.doc_look.joining.Part.TheVariants.{OfExample}
+use Rattle.timefd_lint_scan.specs.declared.doc_look.joining.LookPart.TheVariants.{OfExample}
 use Rattle.timefd_lint_scan.proofs.doc_look.joining.push_all.Given as goal
 
 -- What is left adds all of it.

@@ -1,5 +1,5 @@
 use Rattle.std.proofs.Common.{◌≡◌, ◌++◌, length, map}
-use Rattle.timefd_lint_scan.specs.declared.doc_look.joining.Part.TheVariants.{OfExample}
+use Rattle.timefd_lint_scan.specs.declared.doc_look.joining.LookPart.TheVariants.{OfExample}
 use Rattle.timefd_lint_scan.specs.DocLooks.{after_front, begins_before, front}
 use Rattle.timefd_lint_scan.proofs.doc_look.joining.push_before.Given as goal
 
