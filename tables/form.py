@@ -18,6 +18,7 @@ class Form:
     call: str
     gives: str
     sentences: str
+    not_empty: str
     shows_fault_end: bool
     shows_part_end: bool
     counts_chars: bool

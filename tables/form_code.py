@@ -1,4 +1,4 @@
-"""The tables of the forms of `forms.toml` in code and in its definitions."""
+"""The tables of the forms of `forms.toml` in code, in its definitions, and in the lemma that no form writes nothing."""
 from dialect_tables import codes, quoted
 from form import FORMS, QUESTIONS
 from layout import arm_of_many
@@ -6,7 +6,7 @@ from place import Between, Line, Table, each
 from rattle import grouped
 
 CRATE = "timefd_lint_drawing"
-CODE, DEFINED = f"crates/{CRATE}/src/form.rt", f"crates/{CRATE}/specs/Forms.antt"
+CODE, DEFINED, PROVED = f"crates/{CRATE}/src/form.rt", f"crates/{CRATE}/specs/Forms.antt", f"crates/{CRATE}/proofs/FormLemmas.antt"
 
 
 def variants():
@@ -89,7 +89,10 @@ TABLES = [
     Table(CODE, method("sentences"), arms("sentences", "SentenceStyle::{}".format)),
     *(Table(CODE, method(it), arms(it, shown)) for it in QUESTIONS),
     Table(CODE, Between(("fn written(", "match style.format {"), "    }"), lambda: list(calls())),
-    Table(DEFINED, Line(f"use Rattle.{CRATE}.specs.declared.form.Format.TheVariants."), imported_variants, "import of variants"),
+    *(
+        Table(it, Line(f"use Rattle.{CRATE}.specs.declared.form.Format.TheVariants."), imported_variants, "import of variants")
+        for it in (DEFINED, PROVED)
+    ),
     Table(DEFINED, Between((f"use Rattle.{CRATE}.specs.Findings.",), ""), imported_texts, "imports of what forms are"),
     Table(DEFINED, definition("all"), lambda: [f"all = {' ∷ '.join(it.variant for it in FORMS)} ∷ []"]),
     Table(DEFINED, definition("name_of"), lambda: [f"name_of {it.variant} = {codes(it.name)}" for it in FORMS]),
@@ -97,4 +100,7 @@ TABLES = [
     Table(DEFINED, definition("sentences"), cases("sentences", str)),
     *(Table(DEFINED, definition(it), cases(it, shown)) for it in QUESTIONS),
     Table(DEFINED, definition("drawn_in"), texts),
+    Table(
+        PROVED, Between(("drawn_full :",), ""), lambda: [f"drawn_full {it.variant} colored l s = {it.not_empty}" for it in FORMS],
+    ),
 ]
