@@ -6,7 +6,7 @@ ghost use Rattle.timefd_date_format.specs.Appends.{TriesToAppend};
 ghost use Rattle.timefd_date_format.specs.Written.{shown, written, written_all};
 ghost use Rattle.timefd_lang_node_list.specs.LeafMeaning.{leaf_tree};
 
-use crate::append::append_bytes;
+use crate::append::{append_both, append_bytes};
 use crate::quick::append_component;
 use timefd_date_moment::Moment;
 use timefd_lang_component::Component;
@@ -77,7 +77,7 @@ pub(crate) fn append_plain(bytes: &[u8], room: &mut [u8], at: usize) -> Option<u
 }
 
 /// Appends a literal, and returns the position after it. `None` if there is no room. Most literals have one
-/// byte.
+/// byte, and many others two.
 #[inline(always)]
 pub fn append_literal(bytes: &[u8], room: &mut [u8], at: usize) -> Option<usize>
     requires { at + 32 ≤ length room.old }
@@ -87,10 +87,21 @@ pub fn append_literal(bytes: &[u8], room: &mut [u8], at: usize) -> Option<usize>
         room[at] = *byte;
         return Some(at + 1);
     }
+    append_longer(bytes, room, at)
+}
+
+/// The result of `append_literal` for a literal of another length.
+#[inline(never)]
+fn append_longer(bytes: &[u8], room: &mut [u8], at: usize) -> Option<usize>
+    requires { at + 32 ≤ length room.old }
+    ensures { TriesToAppend (Ok bytes.now) room.old at room.new result }
+{
+    if let [first, second] = bytes {
+        return Some(append_both(*first, *second, room, at));
+    }
     append_text(bytes, room, at)
 }
 
-#[inline(never)]
 fn append_text(bytes: &[u8], room: &mut [u8], at: usize) -> Option<usize>
     requires { at ≤ length room.old }
     ensures { TriesToAppend (Ok bytes.now) room.old at room.new result }

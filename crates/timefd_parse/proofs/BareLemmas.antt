@@ -411,26 +411,26 @@ is_modified v strict white named after rest name s positions c exact spaced show
       is_modern = name_modern name _ c made;
     }
 
-front_is : (text word x y : Text) → x ≡ word → y ≡ text → x ≡ take (length x) y
+-- The same of the bytes that were compared, which are those of the word and of the text.
+pub front_is : (text word x y : Text) → x ≡ word → y ≡ text → x ≡ take (length x) y
     → word ≡ take (length word) text
 front_is text word x y first second begins =
     subst (λ w. w ≡ take (length w) text) first (subst (λ t. x ≡ take (length x) t) second begins)
 
 -- what follows the word
-pub word_before : (text word x y : Text) → x ≡ word → y ≡ text → x ≡ take (length x) y
+pub word_before : (text word : Text) → word ≡ take (length word) text
     → text ≡ word ++ drop (length word) text
-word_before text word x y first second begins =
-    sym (take-append-drop (length word) text) ∙
-    ap (λ t. t ++ drop (length word) text) (sym (front_is text word x y first second begins))
+word_before text word begins =
+    sym (take-append-drop (length word) text) ∙ ap (λ t. t ++ drop (length word) text) (sym begins)
 
 -- If a text begins with a word, a character ends where the word ends.
-pub word_ends : (text word x y : Text) → x ≡ word → y ≡ text → x ≡ take (length x) y
-    → IsUtf8 text → IsUtf8 word → IsCharBoundary text (length word)
-word_ends text word x y first second begins utf8 whole =
+pub word_ends : (text word : Text) → word ≡ take (length word) text → IsUtf8 text → IsUtf8 word
+    → IsCharBoundary text (length word)
+word_ends text word begins utf8 whole =
     IsCharBoundary-from_take text (length word) utf8
     (omega (
       arith,
-      ap length (word_before text word x y first second begins),
+      ap length (word_before text word begins),
       length-append word (drop (length word) text),
     ))
-    (subst IsUtf8 (front_is text word x y first second begins) whole)
+    (subst IsUtf8 begins whole)

@@ -1,6 +1,6 @@
 //! Brackets that hold only the name of a component, as most brackets do.
 
-ghost use Rattle.std.specs.Prelude.{◌≡◌, ◌++◌, ◌∷◌, [], IfSome, MatchOption, Ok, ⊤};
+ghost use Rattle.std.specs.Prelude.{◌≡◌, ◌≤◌, ◌++◌, ◌∷◌, [], IfSome, MatchOption, Ok, ⊤};
 ghost use Rattle.timefd_lang_component.specs.Modern.{modern};
 ghost use Rattle.timefd_lang_component.specs.Reserved.{reserved};
 ghost use Rattle.timefd_language.specs.Bytes.{is_version_three};
@@ -9,20 +9,20 @@ ghost use Rattle.timefd_language.specs.Settings.{defaults};
 ghost use Rattle.timefd_lang_fault.specs.declared.name.ComponentName as names;
 ghost use Rattle.timefd_parse.specs.Read.{IsBare};
 
-use crate::fast::words::after_word;
+use crate::fast::words::after_word_by;
 use timefd_items::Component;
 use timefd_lang_fault::ComponentName;
 use timefd_language::description_version::DescriptionVersion;
 use timefd_modifier::{
-    CalendarYearFullExtendedRange, CalendarYearFullStandardRange, Day, End, Hour24, Minute,
+    CalendarYearFullExtendedRange, CalendarYearFullStandardRange, Day, Hour24, Minute,
     MonthNumerical, OffsetHour, OffsetMinute, OffsetSecond, Ordinal, Period, Second, Subsecond,
-    UnixTimestampSecond, WeekNumberIso, WeekdayLong,
+    WeekdayLong,
 };
 
 /// The component, the bytes it reserves, and what follows, if the text begins with `closed`: the name
 /// and `]`. The component is that of the name without modifiers.
 #[inline(always)]
-fn alone<'a>(
+fn alone<'a, const N: usize>(
     version: DescriptionVersion,
     inside: &'a str,
     name: ComponentName,
@@ -30,13 +30,14 @@ fn alone<'a>(
     component: Component,
     bytes: usize,
 ) -> Option<(Component, usize, &'a str)>
+    requires lanes { N ≤ 64 }
     requires spelled { closed.now ≡ (row_for name).name ++ 93 ∷ [] }
     requires made { (row_for name).component (defaults (is_version_three version)) ≡ Ok component }
     requires bytes { bytes ≡ reserved (modern component) }
     ensures component { MatchOption result ⊤ (λ x. IsBare version inside.now x.0 x.2.now) }
     ensures bytes { IfSome result (λ x. x.1 ≡ reserved (modern x.0)) }
 {
-    let rest = after_word(inside, closed)?;
+    let rest = after_word_by::<N>(inside, closed)?;
     Some((component, bytes, rest))
 }
 
@@ -70,15 +71,15 @@ fn plain_year_bytes(version: DescriptionVersion) -> usize
 
 /// The component of a bracket that holds only a name, the bytes it reserves, and what follows the
 /// bracket. `inside` is the text after the `[`. `None` if the name isn't spelled as in every version.
-/// Only the six names of most dates are compared here: the compiler inlines no function that has, with
-/// all that is inlined into it, many more instructions.
+/// Nor if few texts have it: the compiler inlines no function that has, with all that is inlined into it, many
+/// more instructions.
 #[inline(always)]
 pub fn bare<'a>(version: DescriptionVersion, inside: &'a str) -> Option<(Component, usize, &'a str)>
     ensures component { MatchOption result ⊤ (λ x. IsBare version inside.now x.0 x.2.now) }
     ensures bytes { IfSome result (λ x. x.1 ≡ reserved (modern x.0)) }
 {
     match inside.as_bytes() {
-        [b'd', ..] => alone(
+        [b'd', ..] => alone::<4>(
             version,
             inside,
             ComponentName::Day,
@@ -86,7 +87,7 @@ pub fn bare<'a>(version: DescriptionVersion, inside: &'a str) -> Option<(Compone
             Component::Day(Day::default()),
             2,
         ),
-        [b'h', ..] => alone(
+        [b'h', ..] => alone::<4>(
             version,
             inside,
             ComponentName::Hour,
@@ -94,7 +95,7 @@ pub fn bare<'a>(version: DescriptionVersion, inside: &'a str) -> Option<(Compone
             Component::Hour24(Hour24::default()),
             2,
         ),
-        [b'm', b'i', ..] => alone(
+        [b'm', b'i', ..] => alone::<4>(
             version,
             inside,
             ComponentName::Minute,
@@ -102,7 +103,7 @@ pub fn bare<'a>(version: DescriptionVersion, inside: &'a str) -> Option<(Compone
             Component::Minute(Minute::default()),
             2,
         ),
-        [b'm', ..] => alone(
+        [b'm', ..] => alone::<4>(
             version,
             inside,
             ComponentName::Month,
@@ -110,42 +111,7 @@ pub fn bare<'a>(version: DescriptionVersion, inside: &'a str) -> Option<(Compone
             Component::MonthNumerical(MonthNumerical::default()),
             2,
         ),
-        [b's', b'e', ..] => alone(
-            version,
-            inside,
-            ComponentName::Second,
-            "second]",
-            Component::Second(Second::default()),
-            2,
-        ),
-        [b'y', ..] => alone(
-            version,
-            inside,
-            ComponentName::Year,
-            "year]",
-            plain_year(version),
-            plain_year_bytes(version),
-        ),
-        _ => seldom(version, inside),
-    }
-}
-
-/// The result of `bare` for the other names.
-#[inline(never)]
-fn seldom<'a>(version: DescriptionVersion, inside: &'a str) -> Option<(Component, usize, &'a str)>
-    ensures component { MatchOption result ⊤ (λ x. IsBare version inside.now x.0 x.2.now) }
-    ensures bytes { IfSome result (λ x. x.1 ≡ reserved (modern x.0)) }
-{
-    match inside.as_bytes() {
-        [b'e', ..] => alone(
-            version,
-            inside,
-            ComponentName::End,
-            "end]",
-            Component::End(End::default()),
-            0,
-        ),
-        [b'o', b'r', ..] => alone(
+        [b'o', b'r', ..] => alone::<4>(
             version,
             inside,
             ComponentName::Ordinal,
@@ -154,7 +120,7 @@ fn seldom<'a>(version: DescriptionVersion, inside: &'a str) -> Option<(Component
             3,
         ),
         [b'o', ..] => offset(version, inside),
-        [b'p', ..] => alone(
+        [b'p', ..] => alone::<4>(
             version,
             inside,
             ComponentName::Period,
@@ -162,7 +128,15 @@ fn seldom<'a>(version: DescriptionVersion, inside: &'a str) -> Option<(Component
             Component::Period(Period::default()),
             2,
         ),
-        [b's', ..] => alone(
+        [b's', b'e', ..] => alone::<4>(
+            version,
+            inside,
+            ComponentName::Second,
+            "second]",
+            Component::Second(Second::default()),
+            2,
+        ),
+        [b's', ..] => alone::<8>(
             version,
             inside,
             ComponentName::Subsecond,
@@ -170,15 +144,7 @@ fn seldom<'a>(version: DescriptionVersion, inside: &'a str) -> Option<(Component
             Component::Subsecond(Subsecond::default()),
             9,
         ),
-        [b'u', ..] => alone(
-            version,
-            inside,
-            ComponentName::UnixTimestamp,
-            "unix_timestamp]",
-            Component::UnixTimestampSecond(UnixTimestampSecond::default()),
-            15,
-        ),
-        [b'w', b'e', b'e', b'k', b'd', ..] => alone(
+        [b'w', b'e', b'e', b'k', b'd', ..] => alone::<4>(
             version,
             inside,
             ComponentName::Weekday,
@@ -186,13 +152,13 @@ fn seldom<'a>(version: DescriptionVersion, inside: &'a str) -> Option<(Component
             Component::WeekdayLong(WeekdayLong::default()),
             9,
         ),
-        [b'w', ..] => alone(
+        [b'y', ..] => alone::<4>(
             version,
             inside,
-            ComponentName::WeekNumber,
-            "week_number]",
-            Component::WeekNumberIso(WeekNumberIso::default()),
-            2,
+            ComponentName::Year,
+            "year]",
+            plain_year(version),
+            plain_year_bytes(version),
         ),
         _ => None,
     }
@@ -205,7 +171,7 @@ fn offset<'a>(version: DescriptionVersion, inside: &'a str) -> Option<(Component
     ensures bytes { IfSome result (λ x. x.1 ≡ reserved (modern x.0)) }
 {
     match inside.as_bytes() {
-        [_, _, _, _, _, _, _, b'h', ..] => alone(
+        [_, _, _, _, _, _, _, b'h', ..] => alone::<8>(
             version,
             inside,
             ComponentName::OffsetHour,
@@ -213,7 +179,7 @@ fn offset<'a>(version: DescriptionVersion, inside: &'a str) -> Option<(Component
             Component::OffsetHour(OffsetHour::default()),
             3,
         ),
-        [_, _, _, _, _, _, _, b'm', ..] => alone(
+        [_, _, _, _, _, _, _, b'm', ..] => alone::<8>(
             version,
             inside,
             ComponentName::OffsetMinute,
@@ -221,7 +187,7 @@ fn offset<'a>(version: DescriptionVersion, inside: &'a str) -> Option<(Component
             Component::OffsetMinute(OffsetMinute::default()),
             2,
         ),
-        _ => alone(
+        _ => alone::<8>(
             version,
             inside,
             ComponentName::OffsetSecond,

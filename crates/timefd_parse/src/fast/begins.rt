@@ -18,12 +18,24 @@ pub fn begins(word: &[u8], bytes: &[u8]) -> bool
         return false;
     }
     if len >= 8 {
-        return same_at::<8>(word, bytes, 0) && same_at::<8>(word, bytes, len - 8);
+        return begins_by::<8>(word, bytes);
     }
     if len >= 4 {
-        return same_at::<4>(word, bytes, 0) && same_at::<4>(word, bytes, len - 4);
+        return begins_by::<4>(word, bytes);
     }
     equal(word, &bytes[..len])
+}
+
+/// Whether the bytes begin with a word of `N` to 2 * `N` bytes, by its first and its last `N` bytes.
+#[inline(always)]
+pub fn begins_by<const N: usize>(word: &[u8], bytes: &[u8]) -> bool
+    requires lanes { N ≤ 64 }
+    requires front { N ≤ length word.now }
+    requires end { length word.now ≤ N + N }
+    requires within { length word.now ≤ length bytes.now }
+    ensures { IsTrue result → word.now ≡ take (length word.now) bytes.now }
+{
+    same_at::<N>(word, bytes, 0) && same_at::<N>(word, bytes, word.len() - N)
 }
 
 /// Whether the `N` bytes from index `at` on are the same in both.

@@ -1,7 +1,7 @@
 //! Names and keys of brackets, those of the tables, distinguished by their first bytes and compared in
 //! place.
 
-ghost use Rattle.std.specs.Prelude.{◌≡◌, ◌++◌, MatchOption, Some, true, false, ⊤};
+ghost use Rattle.std.specs.Prelude.{◌≡◌, ◌≤◌, ◌++◌, IsTrue, MatchOption, Some, true, false, length, take, ⊤};
 ghost use Rattle.std.specs.Str.{IsUtf8};
 ghost use Rattle.timefd_language.specs.Bytes.{OneOrMore, is_word_byte};
 ghost use Rattle.timefd_language.specs.Lookup.{key_for};
@@ -9,7 +9,7 @@ ghost use Rattle.timefd_language.specs.Names.{row_for};
 ghost use Rattle.timefd_language.specs.Values as spec;
 ghost use Rattle.timefd_parse.specs.Quick.{BeginsWithName, BeginsWithKey, BeginsWithValue};
 
-use crate::fast::begins::begins;
+use crate::fast::begins::{begins, begins_by};
 use timefd_lang_fault::{ComponentName, Key};
 use timefd_language::key::spelling;
 use timefd_language::name::name_spelling;
@@ -24,7 +24,30 @@ pub fn after_word<'a>(text: &'a str, word: &str) -> Option<&'a str>
     if text.len() < word.len() {
         return None;
     }
-    if begins(word.as_bytes(), text.as_bytes()) {
+    after_front(text, word, begins(word.as_bytes(), text.as_bytes()))
+}
+
+/// The result of `after_word` for a word of `N` to 2 * `N` bytes, and else `None`. It compares in one way only, so the
+/// compiler inlines it where it would be too large otherwise.
+#[inline(always)]
+pub fn after_word_by<'a, const N: usize>(text: &'a str, word: &str) -> Option<&'a str>
+    requires { N ≤ 64 }
+    ensures { MatchOption result ⊤ (λ rest. (text.now ≡ word.now ++ rest.now) × IsUtf8 rest.now) }
+{
+    let len = word.len();
+    if text.len() < len || len < N || len - N > N {
+        return None;
+    }
+    after_front(text, word, begins_by::<N>(word.as_bytes(), text.as_bytes()))
+}
+
+/// What follows the word, if the text is known to begin with it.
+#[inline(always)]
+fn after_front<'a>(text: &'a str, word: &str, is_there: bool) -> Option<&'a str>
+    requires { IsTrue is_there → word.now ≡ take (length word.now) text.now }
+    ensures { MatchOption result ⊤ (λ rest. (text.now ≡ word.now ++ rest.now) × IsUtf8 rest.now) }
+{
+    if is_there {
         Some(&text[word.len()..])
     } else {
         None

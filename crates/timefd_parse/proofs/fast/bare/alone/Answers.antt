@@ -4,7 +4,7 @@ use Rattle.timefd_parse.proofs.BareLemmas.{is_bare}
 use Rattle.timefd_parse.proofs.fast.bare.alone.Goals as goal
 
 pub returns-clause-component : goal.returns-clause-component
-returns-clause-component c =
+returns-clause-component g c =
     is_bare c.args.version _ c.args.inside.now c.in_ok-rest.rest.now c.args.name _ c.args.component
     refl (
       c.in_ok-rest.ensures.0 ∙ ap (λ t. t ++ c.in_ok-rest.rest.now) c.requires.spelled ∙
