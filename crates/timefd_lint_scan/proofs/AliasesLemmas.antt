@@ -1,5 +1,6 @@
 -- Names that are looked up among aliases.
-use Rattle.std.proofs.Common.{ℕ, ◌≡◌, ◌∙◌, ◌<◌, ◌≤◌, ◌⊎◌, false, true, List, [], ◌∷◌, ap, arith, drop, get_or, inl, inr, length, nat_lt, refl, suc, sym, take, zero}
+use Rattle.std.proofs.Common.{ℕ, ◌≡◌, ◌∙◌, ◌<◌, ◌≤◌, ◌⊎◌, false, true, List, [], ◌∷◌, ap, arith, drop, get_or, inl, inr, length, nat_lt, refl}
+use Rattle.std.proofs.Common.{suc, sym, take, zero}
 use Rattle.std.proofs.lemmas.Bool.{and_left, and_parts, and_right, cases_Bool}
 use Rattle.std.proofs.lemmas.Bool.Decides.{nat_tests}
 use Rattle.std.proofs.lemmas.Slice.Eq.{bytes_eq-Decides}

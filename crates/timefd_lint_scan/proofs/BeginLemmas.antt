@@ -1,5 +1,6 @@
 -- Where the blocks that tokens are in begin.
-use Rattle.std.proofs.Common.{ℕ, ◌≡◌, ◌==◌, ◌∙◌, ◌+◌, ◌-◌, ◌<◌, ◌≤◌, ◌++◌, ◌&&◌, List, [], ◌∷◌, ap, arith, false, get_or, inl, inr, length, max, nat_le, nat_lt, refl, reverse, subst, suc, sym, take, true, zero}
+use Rattle.std.proofs.Common.{ℕ, ◌≡◌, ◌==◌, ◌∙◌, ◌+◌, ◌-◌, ◌<◌, ◌≤◌, ◌++◌, ◌&&◌, List, [], ◌∷◌, ap, arith, false, get_or, inl, inr, length, max, nat_le, nat_lt}
+use Rattle.std.proofs.Common.{refl, reverse, subst, suc, sym, take, true, zero}
 use Rattle.std.proofs.lemmas.Bool.{cases_Bool}
 use Rattle.std.proofs.lemmas.Bool.Decides.{nat_tests}
 use Rattle.std.proofs.lemmas.List.{take_more}

@@ -1,5 +1,6 @@
 -- Where the blocks that tokens are in begin and end.
-use Rattle.std.proofs.Common.{ℕ, ◌≡◌, ◌==◌, ◌∙◌, ◌+◌, ◌-◌, ◌<◌, ◌≤◌, ◌++◌, List, [], ◌∷◌, add-one, ap, arith, drop, false, get_or, inl, inr, length, length-append, nat_le, refl, reverse, subst, suc, sym, true, zero}
+use Rattle.std.proofs.Common.{ℕ, ◌≡◌, ◌==◌, ◌∙◌, ◌+◌, ◌-◌, ◌<◌, ◌≤◌, ◌++◌, List, [], ◌∷◌, add-one, ap, arith, drop, false, get_or, inl, inr, length}
+use Rattle.std.proofs.Common.{length-append, nat_le, refl, reverse, subst, suc, sym, true, zero}
 use Rattle.std.proofs.lemmas.Bool.{cases_Bool}
 use Rattle.std.proofs.lemmas.Bool.Decides.{nat_tests}
 use Rattle.std.proofs.lemmas.Grind.{reverse_onto}

@@ -1,5 +1,6 @@
 -- Descriptions in a walk over tokens.
-use Rattle.std.proofs.Common.{ℕ, ◌≡◌, ◌∙◌, ◌+◌, ◌<◌, ◌≤◌, ◌++◌, List, [], ◌∷◌, ap, append_assoc, append-nil, drop, get_or, length, nat_le, true, false, inl, inr, refl, subst, sym, arith}
+use Rattle.std.proofs.Common.{ℕ, ◌≡◌, ◌∙◌, ◌+◌, ◌<◌, ◌≤◌, ◌++◌, List, [], ◌∷◌, ap, append_assoc, append-nil, drop, get_or, length, nat_le, true, false, inl}
+use Rattle.std.proofs.Common.{inr, refl, subst, sym, arith}
 use Rattle.std.proofs.lemmas.Bool.{cases_Bool}
 use Rattle.std.proofs.lemmas.Bool.Decides.{nat_tests}
 use Rattle.std.proofs.lemmas.List.{drop_all, drop_more}
@@ -23,7 +24,8 @@ use Rattle.timefd_lint_scan.specs.Bytes.{Text}
 use Rattle.timefd_lint_scan.specs.Candidates.{candidate_at, candidates_by, candidates_from}
 use Rattle.timefd_lint_scan.specs.Escapes.{Placed}
 use Rattle.timefd_lint_scan.specs.Flows.{outermost}
-use Rattle.timefd_lint_scan.specs.Found.{AllStandIn, AreDescribed, AreInOrder, IsAnyDescribed, IsDescribed, IsOfText, StandsIn, begin_of, begun_after, end_after}
+use Rattle.timefd_lint_scan.specs.Found.{AllStandIn, AreDescribed, AreInOrder, IsAnyDescribed, IsDescribed, IsOfText}
+use Rattle.timefd_lint_scan.specs.Found.{StandsIn, begin_of, begun_after, end_after}
 use Rattle.timefd_lint_scan.specs.Frames.{innermost, passed}
 use Rattle.timefd_lint_scan.specs.Literals.{literal_text}
 use Rattle.timefd_lint_scan.specs.Marks.{still_open, reported_at}

@@ -1,5 +1,6 @@
 -- Examples in doc comments.
-use Rattle.std.proofs.Common.{ℕ, ◌≡◌, ◌∙◌, ◌+◌, ◌-◌, ◌<◌, ◌≤◌, List, [], ◌∷◌, ◌++◌, ap, append-nil, append_assoc, arith, drop, get_or, length, length-drop, refl, rules, subst, suc, sym, take, zero}
+use Rattle.std.proofs.Common.{ℕ, ◌≡◌, ◌∙◌, ◌+◌, ◌-◌, ◌<◌, ◌≤◌, List, [], ◌∷◌, ◌++◌, ap, append-nil, append_assoc, arith, drop, get_or, length, length-drop}
+use Rattle.std.proofs.Common.{refl, rules, subst, suc, sym, take, zero}
 use Rattle.std.proofs.Math.Seq.{take-length}
 use Rattle.std.specs.Prelude.{Bool, true, false, not, ◌&&◌, if◌then◌else◌, Option, Some, None, map, slice_index_or, slice_set}
 use Rattle.timefd_lint_scan.specs.declared.doc_tests.DocTest.{DocTest}
@@ -11,7 +12,9 @@ use Rattle.timefd_lint_scan.specs.Literals.{cut}
 use Rattle.timefd_lint_scan.specs.declared.doc_tests.info.BlockLanguage.{BlockLanguage}
 use Rattle.timefd_lint_scan.specs.declared.doc_tests.info.BlockLanguage.TheVariants.{Unsaid}
 use Rattle.timefd_lint_scan.specs.Bytes.{Text}
-use Rattle.timefd_lint_scan.specs.DocTests.{Line, TestCode, after_comment, after_word, code_from, code_with, goes_on, is_in_example, is_rust, line_code, line_of, opened_in, place_next, place_of, takes, test_of, tests_from, tests_in, to_last, language_of, with_comment, with_opened, word_end}
+use Rattle.timefd_lint_scan.specs.DocTests.{Line, TestCode, after_comment, after_word, code_from, code_with, goes_on, is_in_example, is_rust, line_code}
+use Rattle.timefd_lint_scan.specs.DocTests.{line_of, opened_in, place_next, place_of, takes, test_of, tests_from, tests_in, to_last}
+use Rattle.timefd_lint_scan.specs.DocTests.{language_of, with_comment, with_opened, word_end}
 
 -- What is left decides what all words say.
 pub record IsLeft (info rest : Text) (v : BlockLanguage) : Type 0 where

@@ -1,5 +1,6 @@
 -- A source without a fence has no examples.
-use Rattle.std.proofs.Common.{ℕ, zero, suc, ◌≡◌, ◌∙◌, ◌+◌, ◌-◌, ◌<◌, ◌≤◌, ◌&&◌, ◌⊎◌, ◌++◌, Bool, true, false, not, List, [], ◌∷◌, ap, arith, codes, drop, get_or, inl, inr, length, nat_lt, refl, subst, sym}
+use Rattle.std.proofs.Common.{ℕ, zero, suc, ◌≡◌, ◌∙◌, ◌+◌, ◌-◌, ◌<◌, ◌≤◌, ◌&&◌, ◌⊎◌, ◌++◌, Bool, true, false, not, List, [], ◌∷◌, ap, arith, codes, drop}
+use Rattle.std.proofs.Common.{get_or, inl, inr, length, nat_lt, refl, subst, sym}
 use Rattle.std.proofs.lemmas.Bool.{cases_Bool, eqb-true}
 use Rattle.std.proofs.lemmas.Bool.Decides.{nat_tests}
 use Rattle.std.proofs.lemmas.List.{get_or-drop, get_or-take, length-drop, length-take}
@@ -12,7 +13,8 @@ use Rattle.timefd_lint_scan.specs.declared.doc_tests.place.DocPlace.TheVariants.
 use Rattle.timefd_lint_scan.specs.declared.piece.PlacedToken.{PlacedToken}
 use Rattle.timefd_lint_scan.specs.After.{after_run}
 use Rattle.timefd_lint_scan.specs.Bytes.{Text, is_white}
-use Rattle.timefd_lint_scan.specs.DocTests.{Line, TestCode, after_comment, code_from, count_of, goes_on, is_in_example, line_in, line_of, opened, opened_by, opened_in, opening_by, opens, place_after, place_next, place_of, sign_of, tests_from, tests_in}
+use Rattle.timefd_lint_scan.specs.DocTests.{Line, TestCode, after_comment, code_from, count_of, goes_on, is_in_example, line_in, line_of, opened, opened_by}
+use Rattle.timefd_lint_scan.specs.DocTests.{opened_in, opening_by, opens, place_after, place_next, place_of, sign_of, tests_from, tests_in}
 use Rattle.timefd_lint_scan.specs.Literals.{cut}
 use Rattle.timefd_lint_scan.specs.Names.{HasNoFence, Lacks}
 use Rattle.timefd_lint_scan.proofs.InsideLemmas.{IsSuffix, cut_to, run_is_suffix}

@@ -1,5 +1,6 @@
 -- Where a name is first in a list of uses.
-use Rattle.std.proofs.Common.{ℕ, ◌≡◌, ◌∙◌, ◌+◌, ◌<◌, ◌≤◌, ◌⊎◌, false, List, [], ◌∷◌, ap, arith, drop, get_or, inl, inr, length, max, nat_lt, refl, suc, sym, zero}
+use Rattle.std.proofs.Common.{ℕ, ◌≡◌, ◌∙◌, ◌+◌, ◌<◌, ◌≤◌, ◌⊎◌, false, List, [], ◌∷◌, ap, arith, drop, get_or, inl, inr, length, max, nat_lt}
+use Rattle.std.proofs.Common.{refl, suc, sym, zero}
 use Rattle.std.proofs.lemmas.Bool.{cases_Bool}
 use Rattle.std.proofs.lemmas.Bool.Decides.{nat_tests}
 use Rattle.std.proofs.lemmas.Slice.Eq.{bytes_eq-Decides}

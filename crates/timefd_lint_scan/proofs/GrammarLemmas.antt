@@ -1,5 +1,6 @@
 -- What is read as a string literal is one by the grammar.
-use Rattle.std.proofs.Common.{ℕ, zero, suc, ◌≡◌, ◌≤◌, ◌-◌, ◌==◌, ◌&&◌, ◌⊎◌, inl, inr, not, Bool, true, false, cond, nat_le, [], ◌∷◌, ◌++◌, length, drop, replicate, Option, Some, None, IsTrue, refl, sym, ap, subst, ◌∙◌, append_assoc, arith, eqb-true}
+use Rattle.std.proofs.Common.{ℕ, zero, suc, ◌≡◌, ◌≤◌, ◌-◌, ◌==◌, ◌&&◌, ◌⊎◌, inl, inr, not, Bool, true, false, cond, nat_le, [], ◌∷◌, ◌++◌, length, drop}
+use Rattle.std.proofs.Common.{replicate, Option, Some, None, IsTrue, refl, sym, ap, subst, ◌∙◌, append_assoc, arith, eqb-true}
 use Rattle.std.proofs.lemmas.Bool.{cases_Bool, and_from}
 use Rattle.timefd_lint_scan.specs.declared.class.ByteSet.TheVariants.{Line, Hash}
 use Rattle.timefd_lint_scan.specs.declared.token.Encoding.{Encoding}
@@ -11,7 +12,8 @@ use Rattle.timefd_lint_scan.specs.declared.token.Token.TheVariants.{White, Comme
 use Rattle.timefd_lint_scan.specs.Bytes.{Text, quote, hash, apostrophe, star, slash, backslash, is_white, is_word, class_test}
 use Rattle.timefd_lint_scan.specs.After.{after_run, hashes, after_string, after_escape, after_raw, after_comment}
 use Rattle.timefd_lint_scan.specs.Tokens as read
-use Rattle.timefd_lint_scan.specs.Tokens.{Begin, closed, opened_comment, begins_word, after_quoted, plain, quoted_or_plain, literal_or_less, comment_or_less, first}
+use Rattle.timefd_lint_scan.specs.Tokens.{Begin, closed, opened_comment, begins_word, after_quoted, plain}
+use Rattle.timefd_lint_scan.specs.Tokens.{quoted_or_plain, literal_or_less, comment_or_less, first}
 use Rattle.timefd_lint_scan.specs.Grammar.{is_body, is_raw_body, letters, IsLiteral}
 
 chosen : {A : Type 0} (b : Bool) (x y z : A) → cond b x y ≡ z

@@ -1,5 +1,6 @@
 -- Aliases that a source declares, and where their blocks end.
-use Rattle.std.proofs.Common.{ℕ, ◌≡◌, ◌∙◌, ◌++◌, ◌-◌, ◌<◌, ◌≤◌, false, true, List, [], ◌∷◌, ap, append_assoc, arith, drop, get_or, length, refl, reverse, subst, sym, take}
+use Rattle.std.proofs.Common.{ℕ, ◌≡◌, ◌∙◌, ◌++◌, ◌-◌, ◌<◌, ◌≤◌, false, true, List, [], ◌∷◌, ap, append_assoc, arith, drop, get_or, length, refl}
+use Rattle.std.proofs.Common.{reverse, subst, sym, take}
 use Rattle.std.proofs.lemmas.List.{drop_all, reverse-append, take_all}
 use Rattle.std.proofs.lemmas.Option.{slice_get-get_or}
 use Rattle.std.proofs.lemmas.Slice.Eq.{bytes_eq-Decides}
@@ -58,8 +59,8 @@ pushed_option found old now pushed =
     ap reverse pushed
     ∙ (reverse-append old (option_to_list found) ∙ ap (λ l. l ++ reverse old) (reverse_option found))
 
-pub one_more : (source : Text) (own : List OwnCall) (ps : List PlacedToken) (n left : ℕ) (p : PlacedToken) (itself found : Option Alias) (old between now : List Alias)
-    → drop n ps ≡ p ∷ drop left ps → itself ≡ self_at source own p (drop left ps) → between ≡ old ++ option_to_list itself
+pub one_more : (source : Text) (own : List OwnCall) (ps : List PlacedToken) (n left : ℕ) (p : PlacedToken) (itself found : Option Alias)
+    (old between now : List Alias) → drop n ps ≡ p ∷ drop left ps → itself ≡ self_at source own p (drop left ps) → between ≡ old ++ option_to_list itself
     → found ≡ alias_at source own p (drop left ps) → now ≡ between ++ option_to_list found
     → reverse old ≡ aliases_in source own (drop left ps) → reverse now ≡ aliases_in source own (drop n ps)
 one_more source own ps n left p itself found old between now split is first has second so_far =

@@ -1,5 +1,6 @@
 -- What is noted about the tokens of a source.
-use Rattle.std.proofs.Common.{ℕ, ◌≡◌, ◌∙◌, ◌+◌, ◌-◌, ◌<◌, ◌≤◌, ◌&&◌, ◌||◌, Bool, false, true, List, [], ◌∷◌, ap, arith, drop, get_or, inl, inr, length, nat_le, refl, subst, suc, suc-add, sym, zero, zero-add}
+use Rattle.std.proofs.Common.{ℕ, ◌≡◌, ◌∙◌, ◌+◌, ◌-◌, ◌<◌, ◌≤◌, ◌&&◌, ◌||◌, Bool, false, true, List, [], ◌∷◌, ap, arith, drop, get_or, inl, inr, length, nat_le}
+use Rattle.std.proofs.Common.{refl, subst, suc, suc-add, sym, zero, zero-add}
 use Rattle.std.proofs.lemmas.Bool.{and_parts, cases_Bool, or_from, or_left, or_right}
 use Rattle.std.proofs.lemmas.Bool.Decides.{nat_tests}
 use Rattle.std.proofs.lemmas.Slice.Eq.{bytes_eq-Decides}

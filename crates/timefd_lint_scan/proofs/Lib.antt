@@ -29,6 +29,7 @@ pub mod FenceLemmas
 pub mod DocLookLemmas
 pub mod DocTestLemmas
 pub mod StandingLemmas
+pub mod FrameLemmas
 pub mod FoundLemmas
 pub mod GrammarLemmas
 pub mod WrittenLemmas

@@ -1,5 +1,6 @@
 -- Calls that take a text by a name, and whose text is looked at for another call.
-use Rattle.std.proofs.Common.{ℕ, ◌≡◌, ◌∙◌, ◌+◌, ◌<◌, ◌≤◌, ◌⊎◌, ◌||◌, Bool, false, true, List, ap, arith, get_or, inl, inr, length, max, nat_lt, refl, subst, sym}
+use Rattle.std.proofs.Common.{ℕ, ◌≡◌, ◌∙◌, ◌+◌, ◌<◌, ◌≤◌, ◌⊎◌, ◌||◌, Bool, false, true, List, ap, arith, get_or, inl, inr, length, max}
+use Rattle.std.proofs.Common.{nat_lt, refl, subst, sym}
 use Rattle.std.proofs.lemmas.Bool.{and_right, cases_Bool}
 use Rattle.std.proofs.lemmas.Bool.Decides.{nat_tests}
 use Rattle.std.specs.Prelude.{Option, Some, None}

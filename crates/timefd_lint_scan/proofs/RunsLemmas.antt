@@ -1,5 +1,6 @@
 -- Uses that are passed over together.
-use Rattle.std.proofs.Common.{ℕ, ◌≡◌, ◌≢◌, ◌∙◌, ◌+◌, ◌<◌, ◌≤◌, false, List, [], ◌∷◌, ap, arith, drop, get_or, inl, inr, length, max, nat_lt, refl, set, subst, sym, true}
+use Rattle.std.proofs.Common.{ℕ, ◌≡◌, ◌≢◌, ◌∙◌, ◌+◌, ◌<◌, ◌≤◌, false, List, [], ◌∷◌, ap, arith, drop, get_or, inl, inr, length, max, nat_lt, refl}
+use Rattle.std.proofs.Common.{set, subst, sym, true}
 use Rattle.std.proofs.lemmas.Bool.{and_right, cases_Bool}
 use Rattle.std.proofs.lemmas.Bool.Decides.{nat_tests}
 use Rattle.std.proofs.lemmas.List.{drop_all, drop_more, get_or-set_other, get_or-set_same}

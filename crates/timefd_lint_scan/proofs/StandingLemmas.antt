@@ -1,5 +1,6 @@
 -- Each byte of an example's code is that of the source at its position, or a space.
-use Rattle.std.proofs.Common.{ℕ, ◌≡◌, ◌∙◌, ◌+◌, ◌-◌, ◌<◌, ◌≤◌, List, [], ◌∷◌, ◌++◌, ap, append_assoc, arith, drop, get_or, inl, inr, length, length-append, refl, subst, suc, sym, take, zero}
+use Rattle.std.proofs.Common.{ℕ, ◌≡◌, ◌∙◌, ◌+◌, ◌-◌, ◌<◌, ◌≤◌, List, [], ◌∷◌, ◌++◌, ap, append_assoc, arith, drop, get_or, inl, inr, length, length-append}
+use Rattle.std.proofs.Common.{refl, subst, suc, sym, take, zero}
 use Rattle.std.proofs.Math.Seq.{take-add, take-append_seam}
 use Rattle.std.proofs.lemmas.Bool.{cases_Bool}
 use Rattle.std.proofs.lemmas.Bool.Decides.{nat_tests}
@@ -14,7 +15,8 @@ use Rattle.timefd_lint_scan.specs.declared.doc_tests.place.DocPlace.TheVariants.
 use Rattle.timefd_lint_scan.specs.declared.piece.PlacedToken.{PlacedToken}
 use Rattle.timefd_lint_scan.specs.After.{after_run}
 use Rattle.timefd_lint_scan.specs.Bytes.{Text, is_white}
-use Rattle.timefd_lint_scan.specs.DocTests.{Line, StandsAt, TestCode, after_comment, code_from, code_of, code_with, gap, goes_on, is_in_example, is_line, is_same, line_code, line_in, line_of, opened_in, opens, place_next, shown, tests_from, tests_in}
+use Rattle.timefd_lint_scan.specs.DocTests.{Line, StandsAt, TestCode, after_comment, code_from, code_of, code_with, gap, goes_on, is_in_example, is_line}
+use Rattle.timefd_lint_scan.specs.DocTests.{is_same, line_code, line_in, line_of, opened_in, opens, place_next, shown, tests_from, tests_in}
 use Rattle.timefd_lint_scan.specs.Literals.{cut}
 use Rattle.timefd_lint_scan.specs.Marks.{in_front}
 

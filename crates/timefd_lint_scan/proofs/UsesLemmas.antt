@@ -1,5 +1,6 @@
 -- Uses of names before a position, which no later declaration is meant by.
-use Rattle.std.proofs.Common.{ℕ, ◌≡◌, ◌∙◌, ◌+◌, ◌<◌, ◌≤◌, ◌++◌, false, List, [], ◌∷◌, ap, arith, drop, get_or, inl, inr, length, length-append, max, nat_le, nat_lt, refl, subst, suc, sym, zero}
+use Rattle.std.proofs.Common.{ℕ, ◌≡◌, ◌∙◌, ◌+◌, ◌<◌, ◌≤◌, ◌++◌, false, List, [], ◌∷◌, ap, arith, drop, get_or, inl, inr, length, length-append, max, nat_le}
+use Rattle.std.proofs.Common.{nat_lt, refl, subst, suc, sym, zero}
 use Rattle.std.proofs.lemmas.Bool.{and_right, cases_Bool}
 use Rattle.std.proofs.lemmas.Bool.Decides.{nat_tests}
 use Rattle.std.proofs.lemmas.List.{get_or_append_left, get_or_push}

@@ -1,5 +1,7 @@
 -- What written bodies denote.
-use Rattle.std.proofs.Common.{ℕ, zero, suc, ◌≡◌, ◌≤◌, ◌<◌, ◌-◌, ◌+◌, ◌*◌, ◌/◌, ◌%◌, ◌==◌, ◌&&◌, not, Bool, true, false, nat_le, List, [], ◌∷◌, ◌++◌, length, replicate, inl, inr, get_or, take, Option, Some, None, IsTrue, refl, sym, ap, subst, ◌∙◌, append_assoc, append-nil, length-append, arith}
+use Rattle.std.proofs.Common.{ℕ, zero, suc, ◌≡◌, ◌≤◌, ◌<◌, ◌-◌, ◌+◌, ◌*◌, ◌/◌, ◌%◌, ◌==◌, ◌&&◌, not, Bool, true, false, nat_le, List, [], ◌∷◌, ◌++◌, length}
+use Rattle.std.proofs.Common.{replicate, inl, inr, get_or, take, Option, Some, None, IsTrue, refl, sym, ap, subst, ◌∙◌}
+use Rattle.std.proofs.Common.{append_assoc, append-nil, length-append, arith}
 use Rattle.std.specs.List.{list_all}
 use Rattle.std.proofs.lemmas.Bool.{cases_Bool, and_from}
 use Rattle.std.proofs.lemmas.Bool.Decides.{nat_tests}
@@ -12,7 +14,8 @@ use Rattle.timefd_lint_scan.specs.declared.token.LiteralKind.TheVariants.{Escape
 use Rattle.timefd_lint_scan.specs.declared.unescape.Unescaped as whole
 use Rattle.timefd_lint_scan.specs.Bytes.{Text, quote, hash, backslash, carriage_return, class_test}
 use Rattle.timefd_lint_scan.specs.After.{after_run, hashes}
-use Rattle.timefd_lint_scan.specs.Escapes.{Part, Placed, placed_any, before, all_at, byte_of, escape_by, hex_digit, high_by, is_allowed, itself, letter, low_by, byte_value, part_of, unescaped}
+use Rattle.timefd_lint_scan.specs.Escapes.{Part, Placed, placed_any, before, all_at, byte_of, escape_by, hex_digit, high_by, is_allowed, itself, letter}
+use Rattle.timefd_lint_scan.specs.Escapes.{low_by, byte_value, part_of, unescaped}
 use Rattle.timefd_lint_scan.specs.Grammar.{IsBody, closing, is_body, is_raw_body}
 use Rattle.timefd_lint_scan.specs.Written.{AddsPiece, IsBodyFor, IsWritten, closes, closes_nowhere, has_body, is_plain, is_shown, may_stand_raw, text_alone}
 use Rattle.timefd_lint_scan.proofs.UnescapeLemmas.{one_step}

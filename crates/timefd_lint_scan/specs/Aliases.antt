@@ -1,5 +1,6 @@
 -- The names that a source gives to items of libraries: `use time::format_description as fd`.
-use Rattle.std.specs.Prelude.{ℕ, ⊤, ◌≡◌, ◌+◌, ◌-◌, Bool, ◌&&◌, ◌||◌, ◌==◌, nat_le, nat_lt, if◌then◌else◌, List, [], ◌∷◌, ◌++◌, codes, bytes_eq, length, Option, Some, None, string_bytes}
+use Rattle.std.specs.Prelude.{ℕ, ⊤, ◌≡◌, ◌+◌, ◌-◌, Bool, ◌&&◌, ◌||◌, ◌==◌, nat_le, nat_lt, if◌then◌else◌, List, [], ◌∷◌, ◌++◌, codes, bytes_eq, length}
+use Rattle.std.specs.Prelude.{Option, Some, None, string_bytes}
 use Rattle.std.specs.List.{list_any}
 use Rattle.std.specs.Option.{option_or, option_to_list}
 use Rattle.timefd_lint_scan.specs.declared.alias.Alias.{Alias}

@@ -1,5 +1,6 @@
 -- Examples in doc comments, as rustdoc compiles them: each is a source by itself.
-use Rattle.std.specs.Prelude.{ℕ, zero, suc, ◌≡◌, ◌+◌, ◌-◌, ◌<◌, ◌⊎◌, Bool, true, false, not, ◌&&◌, ◌||◌, ◌==◌, nat_eq, nat_le, nat_lt, if◌then◌else◌, List, [], ◌∷◌, ◌++◌, codes, bytes_eq, drop, get_or, length, take, Option, Some, None}
+use Rattle.std.specs.Prelude.{ℕ, zero, suc, ◌≡◌, ◌+◌, ◌-◌, ◌<◌, ◌⊎◌, Bool, true, false, not, ◌&&◌, ◌||◌, ◌==◌, nat_eq, nat_le, nat_lt, if◌then◌else◌, List, []}
+use Rattle.std.specs.Prelude.{◌∷◌, ◌++◌, codes, bytes_eq, drop, get_or, length, take, Option, Some, None}
 use Rattle.std.specs.List.{prefix_len, starts_with}
 use Rattle.timefd_lint_scan.specs.declared.doc_tests.DocTest.{DocTest}
 use Rattle.timefd_lint_scan.specs.declared.doc_tests.before.LineBefore.{LineBefore}

@@ -71,6 +71,14 @@ after_word source ps us i frame =
     with_pending frame (known_by_name source ps (i - 1) us)
     else frame
 
+-- A token that is neither a bracket nor a comma may change what is known in the bracket that it is in.
+abbrev pub may_enter : Text → List PlacedToken → ℕ → Bool
+may_enter source ps i =
+    bytes_eq (text_at source ps i) (codes ";") || bytes_eq (text_at source ps i) (codes ":")
+    || bytes_eq (text_at source ps i) (codes "=") || bytes_eq (text_at source ps i) (codes "let")
+    || bytes_eq (text_at source ps i) (codes "in") || bytes_eq (text_before source ps i 1) (codes "fn")
+    || names_value source ps i
+
 -- the innermost bracket after a token that neither opens nor closes one and isn't a comma
 abbrev pub entered : Text → List PlacedToken → List Use → ℕ → OpenBracket → OpenBracket
 entered source ps us i frame =

@@ -1,5 +1,6 @@
 -- The brackets that are open, the innermost one last.
-use Rattle.std.specs.Prelude.{ℕ, ◌+◌, ◌-◌, ◌^◌, min, Bool, not, ◌&&◌, if◌then◌else◌, List, [], ◌∷◌, ◌++◌, codes, bytes_eq, length, take, Option, Some, None}
+use Rattle.std.specs.Prelude.{ℕ, ◌+◌, ◌-◌, ◌^◌, min, Bool, not, ◌&&◌, ◌||◌, if◌then◌else◌, List, [], ◌∷◌, ◌++◌, codes, bytes_eq, length}
+use Rattle.std.specs.Prelude.{take, Option, Some, None}
 use Rattle.std.specs.List.{slice_get}
 use Rattle.timefd_lint_scan.specs.declared.alias.Alias.{Alias}
 use Rattle.timefd_lint_scan.specs.declared.calls.OpenBracket.{OpenBracket}
@@ -7,7 +8,7 @@ use Rattle.timefd_lint_scan.specs.declared.own_call.OwnCall.{OwnCall}
 use Rattle.timefd_lint_scan.specs.declared.piece.PlacedToken.{PlacedToken}
 use Rattle.timefd_lint_scan.specs.declared.uses.Use.{Use}
 use Rattle.timefd_lint_scan.specs.Bytes.{Text}
-use Rattle.timefd_lint_scan.specs.Flows.{entered, opened, settled}
+use Rattle.timefd_lint_scan.specs.Flows.{entered, may_enter, opened, settled}
 use Rattle.timefd_lint_scan.specs.Words.{is_closing, is_opening, text_at, text_after}
 
 abbrev pub innermost : List OpenBracket → Option OpenBracket
@@ -27,6 +28,11 @@ with_comma frame = settled (record frame { argument = next_argument frame.argume
 abbrev pub is_end : Text → List PlacedToken → ℕ → Bool
 is_end source ps i =
     bytes_eq (text_at source ps i) (codes "}") && not (bytes_eq (text_after source ps i 1) (codes "else"))
+
+-- A token that doesn't open a bracket may change the innermost one.
+abbrev pub may_change : Text → List PlacedToken → ℕ → Bool
+may_change source ps i =
+    bytes_eq (text_at source ps i) (codes ",") || is_end source ps i || may_enter source ps i
 
 -- the innermost bracket after a token that doesn't open one
 abbrev pub after_token : Text → List PlacedToken → List Use → ℕ → OpenBracket → OpenBracket

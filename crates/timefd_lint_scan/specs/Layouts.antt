@@ -1,5 +1,6 @@
 -- What is noted about the tokens of a source, so that names are looked up.
-use Rattle.std.specs.Prelude.{ℕ, ◌≡◌, ◌+◌, ◌*◌, ◌%◌, ◌^◌, ◌<◌, ◌≤◌, Bool, true, false, ◌||◌, if◌then◌else◌, List, [], ◌∷◌, codes, bytes_eq, drop, get_or, length, max}
+use Rattle.std.specs.Prelude.{ℕ, ◌≡◌, ◌+◌, ◌*◌, ◌%◌, ◌^◌, ◌<◌, ◌≤◌, Bool, true, false, ◌||◌, if◌then◌else◌, List, [], ◌∷◌, codes, bytes_eq}
+use Rattle.std.specs.Prelude.{drop, get_or, length, max}
 use Rattle.std.specs.List.{All}
 use Rattle.timefd_lint_scan.specs.declared.blocks.TokenPosition.{TokenPosition}
 use Rattle.timefd_lint_scan.specs.declared.piece.PlacedToken.{PlacedToken}

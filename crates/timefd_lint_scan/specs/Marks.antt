@@ -1,5 +1,6 @@
 -- Comments that name the language of literals: `// timefd: 3`
-use Rattle.std.specs.Prelude.{ℕ, ◌-◌, Bool, true, false, not, ◌&&◌, ◌==◌, nat_eq, nat_le, nat_lt, if◌then◌else◌, List, [], ◌∷◌, bytes_eq, codes, drop, is_none, length, take, Option, Some, None}
+use Rattle.std.specs.Prelude.{ℕ, ◌-◌, Bool, true, false, not, ◌&&◌, ◌==◌, nat_eq, nat_le, nat_lt, if◌then◌else◌, List, [], ◌∷◌, bytes_eq, codes, drop, is_none}
+use Rattle.std.specs.Prelude.{length, take, Option, Some, None}
 use Rattle.std.specs.List.{flat_map, starts_with}
 use Rattle.std.specs.Option.{option_to_list}
 use Rattle.timefd_lint_scan.specs.declared.dialect.FormatLanguage.{FormatLanguage}

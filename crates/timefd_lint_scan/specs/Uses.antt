@@ -1,5 +1,6 @@
 -- Names that are used instead of descriptions, and what their use says about the text that they denote.
-use Rattle.std.specs.Prelude.{ℕ, ◌≡◌, ◌≤◌, ◌<◌, Bool, false, not, ◌&&◌, ◌||◌, nat_le, if◌then◌else◌, List, [], ◌∷◌, codes, bytes_eq, get_or, length, Option, Some, None}
+use Rattle.std.specs.Prelude.{ℕ, ◌≡◌, ◌≤◌, ◌<◌, Bool, false, not, ◌&&◌, ◌||◌, nat_le, if◌then◌else◌, List, [], ◌∷◌, codes, bytes_eq, get_or}
+use Rattle.std.specs.Prelude.{length, Option, Some, None}
 use Rattle.timefd_lint_scan.specs.declared.piece.PlacedToken.{PlacedToken}
 use Rattle.timefd_lint_scan.specs.declared.known.Known.{Known}
 use Rattle.timefd_lint_scan.specs.declared.uses.Use.{Use}

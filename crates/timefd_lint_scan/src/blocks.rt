@@ -8,7 +8,7 @@ ghost use Rattle.timefd_lint_scan.specs.Layouts as spec;
 
 use crate::kept::KeptToken;
 use crate::shadow::is_declaring;
-use crate::word::{is_closing, is_opening, text_of};
+use crate::word::{is_closing, is_opening, is_word_token};
 use std::alloc::{AllocError, Global};
 
 /// A position that is kept for a token.
@@ -76,6 +76,7 @@ pub fn end_by(closings: &[u32], source: &[u8]) -> usize
 }
 
 /// The closing brackets of blocks around a token, the next one last, by those of the token after it.
+#[inline(always)]
 pub fn pass_back(
     closings: &mut Vec<u32>,
     source: &[u8],
@@ -175,7 +176,7 @@ pub fn begins_of(
                 position: last_or(&openings, 0),
             })?;
         }
-        is_declared = is_declaring(piece.text(source));
+        is_declared = is_word_token(piece.token()) && is_declaring(piece.text(source));
         pass_on(&mut openings, source, piece)?;
         end = piece.end();
     }

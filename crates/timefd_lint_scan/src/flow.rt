@@ -148,6 +148,20 @@ fn after_word(
     }
 }
 
+/// Whether a token that is neither a bracket nor a comma may change what is known in the bracket that it is in.
+pub fn may_enter(source: &[u8], pieces: &[KeptToken], index: usize) -> bool
+    ensures { result ≡ spec.may_enter source.now pieces.now index }
+{
+    let text = text_at(source, pieces, index);
+    is(text, ";")
+        || is(text, ":")
+        || is(text, "=")
+        || is(text, "let")
+        || is(text, "in")
+        || is(text_before(source, pieces, index, 1), "fn")
+        || names_value(source, pieces, index)
+}
+
 /// The innermost bracket after a token that neither opens nor closes one and isn't a comma.
 pub fn entered(
     source: &[u8],

@@ -8,7 +8,7 @@ ghost use Rattle.timefd_lint_scan.specs.KeptAliases.{AreAliases};
 use crate::aliases::Aliases;
 use crate::calls::OpenBracket;
 use crate::dialect::is;
-use crate::flow::{entered, opened, settled};
+use crate::flow::{entered, may_enter, opened, settled};
 use crate::kept::KeptToken;
 use crate::uses::Uses;
 use crate::word::{is_closing, is_opening, text_after, text_at};
@@ -52,6 +52,15 @@ fn is_end(source: &[u8], pieces: &[KeptToken], index: usize) -> bool
     is(text_at(source, pieces, index), "}") && !is(text_after(source, pieces, index, 1), "else")
 }
 
+/// Whether a token that doesn't open a bracket may change the innermost one.
+fn may_change(source: &[u8], pieces: &[KeptToken], index: usize) -> bool
+    ensures { result ≡ spec.may_change source.now pieces.now index }
+{
+    is(text_at(source, pieces, index), ",")
+        || is_end(source, pieces, index)
+        || may_enter(source, pieces, index)
+}
+
 /// The innermost bracket after a token that doesn't open one.
 fn after_token(
     source: &[u8],
@@ -77,7 +86,7 @@ fn after_token(
     }
 }
 
-// Replaces the innermost bracket by what it is after a token.
+// Replaces the innermost bracket by what it is after a token. Most tokens leave it as it is.
 fn replace(
     frames: &mut Vec<OpenBracket>,
     source: &[u8],
@@ -89,6 +98,9 @@ fn replace(
     ensures { OnOk result (frames.new.items
         ≡ spec.replaced source.now pieces.now uses.entry.list.now index frames.old.items) }
 {
+    if !may_change(source, pieces, index) {
+        return Ok(());
+    }
     match close(frames) {
         Some(frame) => {
             frames.push(after_token(source, pieces, uses, index, frame))?;

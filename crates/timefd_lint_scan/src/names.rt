@@ -1,7 +1,8 @@
 //! Whether a source can have descriptions at all: some known word is near every description.
 
 ghost use Rattle.std.specs.Prelude.{◌≡◌, ◌⊎◌, codes, false};
-ghost use Rattle.timefd_lint_scan.specs.Names.{HasNoCallOfChrono, HasNoCallOfJiff, HasNoFence, HasNoMacro, HasNoName, HasNoOwn, HasNoParser, HasNoPercent, HasNoPercentEscape, HasNoReaderOfChrono, Lacks};
+ghost use Rattle.timefd_lint_scan.specs.Names.{HasNoCallOfChrono, HasNoCallOfJiff, HasNoFence, HasNoMacro, HasNoName, HasNoOwn, HasNoParser};
+ghost use Rattle.timefd_lint_scan.specs.Names.{HasNoPercent, HasNoPercentEscape, HasNoReaderOfChrono, Lacks};
 
 use crate::own_call::{OwnCall, word_of};
 use memchr::{memchr, memmem};

@@ -12,7 +12,8 @@ loop-index-preserved c =
     (first_of (search rules, omega (arith, c.loop-index-test.true)))
     (c.placed-piece.ensures ∙ c.index-pieces-index.is)
     (c.in_ok-pass.ensures
-    ∙ ap (λ s. passed s c.args.pieces.now c.args.aliases.list.now c.args.aliases.own.now c.args.uses.list.now c.loop-index.index c.loop-index.frames.items) c.as_bytes.ensures.value)
+    ∙ ap (λ s. passed s c.args.pieces.now c.args.aliases.list.now c.args.aliases.own.now c.args.uses.list.now c.loop-index.index
+    c.loop-index.frames.items) c.as_bytes.ensures.value)
     c.still_open-comments.ensures
     (c.candidate_at-candidate.ensures
     ∙ reported_at_token c.args.source.now c.as_bytes-in-loop-index.result.now c.args.pieces.now c.loop-index.index _
@@ -24,6 +25,6 @@ loop-index-preserved c =
 
 pub returns : goal.returns
 returns c =
-    at_last c.args.source.now c.args.pieces.now c.args.aliases.list.now c.args.aliases.own.now c.args.uses.list.now c.args.marks.now c.loop-index.comments.now c.loop-index.index
-    c.loop-index.frames.items c.loop-index.end c.loop-index.descriptions.items
+    at_last c.args.source.now c.args.pieces.now c.args.aliases.list.now c.args.aliases.own.now c.args.uses.list.now c.args.marks.now
+    c.loop-index.comments.now c.loop-index.index c.loop-index.frames.items c.loop-index.end c.loop-index.descriptions.items
     (first_of (search rules, omega (arith, c.loop-index-test.false))) c.loop-index.invariant
