@@ -9,7 +9,7 @@ use Rattle.timefd_language.specs.declared.setting.Setting.{Setting}
 use Rattle.timefd_parse.specs.declared.head.modifiers.Modifiers.{Modifiers}
 use Rattle.timefd_language.specs.Bytes.{equal}
 use Rattle.timefd_language.specs.Head.{Placed}
-use Rattle.timefd_language.specs.Values.{Key, key_in, setting_in}
+use Rattle.timefd_language.specs.Values.{key_in, setting_in}
 use Rattle.timefd_language.specs.Lookup.{key_for, keys_of}
 use Rattle.timefd_parse.specs.Positions.{position}
 use Rattle.timefd_language.specs.Verdict.{bad_modifier, bad_modifiers, settings}
