@@ -44,7 +44,8 @@ pub fn pieces_of<'a>(
     Ok(shown)
 }
 
-// The first piece of a text, and what follows it. `None` if the text begins with no piece.
+// The first piece of a text, with what it is, and what follows it. `None` if the text begins with no piece.
+// A literal or a component of a version is read once; the end of any other piece is found before it is parsed.
 fn first_shown<'a>(
     alloc: Global,
     language: Language,

@@ -1,4 +1,4 @@
-use Rattle.std.proofs.Common.{◌≡◌, ◌<◌, ◌++◌, ◌∷◌, [], IfSome, MatchOption, length, refl, rules, subst, sym}
+use Rattle.std.proofs.Common.{◌≡◌, ◌++◌, ◌∷◌, [], IfSome, MatchOption, refl, rules, subst, sym}
 use Rattle.timefd_language.specs.Grammar.{nesting_limit}
 use Rattle.timefd_parse.specs.FirstPiece.{BeginsList}
 use Rattle.timefd_parse.specs.Language.{SpellsIn}
@@ -12,9 +12,7 @@ pieces-preserved c =
     let piece = c.in-Some.piece in
     let after = c.in-Some.after.now in
     let joined = subst (λ first. IfSome first (λ parts. parts.0.text.now ++ parts.1.now ≡ rest)) c.in-Some.is
-    c.in_ok-piece.ensures.joined in
-    let shorter = subst (λ first. IfSome first (λ parts. length parts.1.now < length rest)) c.in-Some.is
-    c.in_ok-piece.ensures.shorter in (
+    c.in_ok-piece.ensures.joined in (
       search rules,
       within_more c.pieces.shown.items _ piece rest piece.text.now after c.args.text.now
           c.in_ok-push.ensures.items refl joined c.pieces.invariant.1,
