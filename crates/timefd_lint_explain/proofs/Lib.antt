@@ -1,5 +1,6 @@
 pub mod SampleLemmas
 pub mod ShownLemmas
+pub mod LeafLemmas
 pub mod ExampleLemmas
 pub mod InsideLemmas
 pub mod PartLemmas

@@ -1,7 +1,9 @@
--- The lines of nodes, one after another.
-use Rattle.std.proofs.Common.{◌≡◌, ◌∙◌, List, [], ◌∷◌, ◌++◌, append_assoc, append-nil, refl, sym, ap, subst}
+-- The lines of nodes, one after another, and the numbers in them.
+use Rattle.std.proofs.Common.{ℕ, ◌≡◌, ◌∙◌, List, [], ◌∷◌, ◌++◌, append_assoc, append-nil, codes, refl, sym, ap, subst}
+use Rattle.std.specs.Fmt.{char_count, digits, padded_integral}
+use lib.Utf8.{encode}
 use Rattle.timefd_lang_component.specs.Tree.{Text}
-use Rattle.timefd_lint_explain.specs.Lines.{AreLines, IsLine}
+use Rattle.timefd_lint_explain.specs.Lines.{AreLines, IsLine, in_columns}
 use Rattle.timefd_lint_explain.specs.declared.node.ShownNode.{ShownNode}
 
 -- What is appended, followed by the lines of the nodes that are left, makes the lines of all nodes.
@@ -27,3 +29,20 @@ pub all_shown : (text : Text) (nodes rest : List ShownNode) (was now : Text) →
 all_shown text nodes rest was now keep none =
     let k = keep.whole [] (subst (λ (it : List ShownNode). AreLines text it []) (sym none) refl) in
     (k.0, k.1, sym (append-nil now) ∙ sym k.2)
+
+-- A number, and the two spaces after it.
+abbrev pub spaced : ℕ → Text
+spaced n = in_columns n ++ codes "  "
+
+pub of_digit : (spaced 0 ≡ codes "    0  ")
+    × (spaced 1 ≡ codes "    1  ")
+    × (spaced 2 ≡ codes "    2  ")
+    × (spaced 3 ≡ codes "    3  ")
+    × (spaced 4 ≡ codes "    4  ")
+    × (spaced 5 ≡ codes "    5  ")
+    × (spaced 6 ≡ codes "    6  ")
+    × (spaced 7 ≡ codes "    7  ")
+    × (spaced 8 ≡ codes "    8  ")
+    × (spaced 9 ≡ codes "    9  ")
+unfolding digits padded_integral char_count encode
+of_digit = (refl, refl, refl, refl, refl, refl, refl, refl, refl, refl)

@@ -11,7 +11,7 @@ ghost use Rattle.timefd_lint_explain.specs.Lines.{IsExplained, IsTree};
 ghost use Rattle.timefd_lint_explain.specs.Parts.{AreParts, all_parts};
 ghost use Rattle.timefd_lint_explain.specs.Stands.{NodesStand};
 
-use crate::line::push_lines;
+use crate::line::{push_lines, push_number};
 use crate::node::ShownNode;
 use crate::tree::push_pieces;
 use std::alloc::{AllocError, Global};
@@ -92,6 +92,7 @@ fn tree_of(
     push_safe(alloc, &mut out, text)?;
     out.push_str("\n")?;
     push_lines(alloc, &mut out, text, nodes)?;
-    write!(out, "{bytes:5}  in all\n")?;
+    push_number(&mut out, bytes)?;
+    out.push_str("in all\n")?;
     Ok(out)
 }

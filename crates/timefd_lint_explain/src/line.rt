@@ -1,6 +1,6 @@
 //! The lines that show nodes.
 
-ghost use Rattle.std.specs.Prelude.{◌≡◌, ◌++◌, OnOk, string_bytes};
+ghost use Rattle.std.specs.Prelude.{◌≡◌, ◌++◌, codes, IfSome, OnOk, string_bytes};
 ghost use Rattle.timefd_lint_explain.specs.Lines as spec;
 ghost use Rattle.timefd_lint_explain.specs.Lines.{AreLines, IsLine};
 
@@ -34,11 +34,41 @@ fn push_line(
     ensures { OnOk result ((line : _) × IsLine text.now node.now line
         × (string_bytes out.new ≡ string_bytes out.old ++ line)) }
 {
-    write!(out, "{:5}  ", node.bytes)?;
+    push_number(out, node.bytes)?;
     push_indent(out, node.depth)?;
     push_quoted(alloc, out, text.get(node.start..node.end).unwrap_or(""))?;
     out.push_str(&node.words)?;
     push_example(alloc, out, &node.example)
+}
+
+/// Appends a number, padded with spaces to at least five columns, and two spaces.
+pub fn push_number(out: &mut String, number: usize) -> Result<(), AllocError>
+    ensures { OnOk result (string_bytes out.new
+        ≡ string_bytes out.old ++ (spec.in_columns number ++ codes "  ")) }
+{
+    match padded_digit(number) {
+        Some(text) => out.push_str(text),
+        None => write!(out, "{number:5}  "),
+    }
+}
+
+// What is appended for a number of one digit.
+fn padded_digit(number: usize) -> Option<&'static str>
+    ensures { IfSome result (λ text. text.now ≡ spec.in_columns number ++ codes "  ") }
+{
+    match number {
+        0 => Some("    0  "),
+        1 => Some("    1  "),
+        2 => Some("    2  "),
+        3 => Some("    3  "),
+        4 => Some("    4  "),
+        5 => Some("    5  "),
+        6 => Some("    6  "),
+        7 => Some("    7  "),
+        8 => Some("    8  "),
+        9 => Some("    9  "),
+        _ => None,
+    }
 }
 
 // Appends two spaces for each bracket.

@@ -72,7 +72,7 @@ fn version_piece<'a>(
         Ok(BorrowedOutput::Description(description)) => {
             view_piece(alloc, text, description.view())
         }
-        Ok(BorrowedOutput::Items(items)) => item_piece(alloc, text, &items),
+        Ok(BorrowedOutput::Items(items)) => items_piece(alloc, text, &items),
         Err(ParseError::Invalid(_)) => unreachable!(),
         Err(ParseError::Memory(error)) => Err(error),
     }
@@ -86,7 +86,7 @@ fn directive_piece<'a>(alloc: Global, text: &'a str) -> Result<Shown<'a>, AllocE
 {
     let tables = StrftimeTables::new();
     match parse_strftime_borrowed(alloc, &tables, text) {
-        Ok(items) => item_piece(alloc, text, &items),
+        Ok(items) => items_piece(alloc, text, &items),
         Err(ParseError::Invalid(_)) => unreachable!(),
         Err(ParseError::Memory(error)) => Err(error),
     }
@@ -112,7 +112,8 @@ fn shape_what(alloc: Global, shape: Shape<'_, '_>) -> Result<What, AllocError>
     }
 }
 
-fn item_piece<'a>(
+// A piece that is the only one of these items.
+fn items_piece<'a>(
     alloc: Global,
     text: &'a str,
     items: &[BorrowedFormatItem<'_>],
@@ -122,7 +123,18 @@ fn item_piece<'a>(
     ensures { (tree : Tree) → item_trees items.now ≡ tree ∷ []
         → IfOk result (λ shown. ShowsOne text.now shown tree) }
 {
-    let item = &items[0];
+    item_piece(alloc, text, &items[0])
+}
+
+/// A piece that is this item. It may not be a literal of bytes.
+pub fn item_piece<'a>(
+    alloc: Global,
+    text: &'a str,
+    item: &BorrowedFormatItem<'_>,
+) -> Result<Shown<'a>, AllocError>
+    requires { IsTrue (is_of_strings item.now) }
+    ensures { IfOk result (λ shown. ShowsOne text.now shown (item_tree item.now)) }
+{
     let what = item_what(alloc, item)?;
     Ok(Shown {
         text,

@@ -4,8 +4,8 @@ use Rattle.timefd_language.specs.Strings.{are_of_strings}
 use Rattle.timefd_parse.specs.Reported.{MemoryAlone}
 use Rattle.timefd_lint_explain.proofs.piece.directive_piece.Goals as goal
 
-pub item_piece-requires : goal.item_piece-requires
-item_piece-requires c = record {
+pub items_piece-requires : goal.items_piece-requires
+items_piece-requires c = record {
   one = (
     c.requires.0,
     ap item_trees c.deref.ensures.value ∙
@@ -17,7 +17,7 @@ item_piece-requires c = record {
 
 pub returns-in-Ok : goal.returns-in-Ok
 returns-in-Ok c = λ tree s.
-    c.item_piece.ensures tree (ap item_trees c.deref.ensures.value ∙
+    c.items_piece.ensures tree (ap item_trees c.deref.ensures.value ∙
     c.in-Ok.ensures.spelled (tree ∷ []) s)
 
 -- A text that is spelled has no fault.

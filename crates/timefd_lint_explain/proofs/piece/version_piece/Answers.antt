@@ -14,8 +14,8 @@ returns-in-Ok-Description c = λ tree s.
     c.in-Ok-Description.field-0-is (c.in-Ok-Description.ensures.spelled (tree ∷ []) s))
     c.view_piece.ensures
 
-pub item_piece-requires : goal.item_piece-requires
-item_piece-requires c = record {
+pub items_piece-requires : goal.items_piece-requires
+items_piece-requires c = record {
   one = (
     c.requires.0,
     ap item_trees c.deref.ensures.value ∙
@@ -28,7 +28,7 @@ item_piece-requires c = record {
 
 pub returns-in-Ok-Items : goal.returns-in-Ok-Items
 returns-in-Ok-Items c = λ tree s.
-    c.item_piece.ensures tree (ap item_trees c.deref.ensures.value ∙
+    c.items_piece.ensures tree (ap item_trees c.deref.ensures.value ∙
     items_of c.args.version (tree ∷ []) _ _ c.in-Ok-Items.field-0-is
     (c.in-Ok-Items.ensures.spelled (tree ∷ []) s))
 
