@@ -1,6 +1,6 @@
 //! Brackets that hold only the name of a component, as most brackets do.
 
-ghost use Rattle.std.specs.Prelude.{◌≡◌, ◌≤◌, ◌++◌, ◌∷◌, [], IfSome, MatchOption, Ok, ⊤};
+ghost use Rattle.std.specs.Prelude.{◌≡◌, ◌≤◌, ◌+◌, ◌++◌, ◌∷◌, [], IfSome, MatchOption, Ok, length, ⊤};
 ghost use Rattle.timefd_lang_component.specs.Modern.{modern};
 ghost use Rattle.timefd_lang_component.specs.Reserved.{reserved};
 ghost use Rattle.timefd_language.specs.Bytes.{is_version_three};
@@ -15,8 +15,7 @@ use timefd_lang_fault::ComponentName;
 use timefd_language::description_version::DescriptionVersion;
 use timefd_modifier::{
     CalendarYearFullExtendedRange, CalendarYearFullStandardRange, Day, Hour24, Minute,
-    MonthNumerical, OffsetHour, OffsetMinute, OffsetSecond, Ordinal, Period, Second, Subsecond,
-    WeekdayLong,
+    MonthNumerical, OffsetHour, OffsetMinute, Ordinal, Period, Second, Subsecond, WeekdayLong,
 };
 
 /// The component, the bytes it reserves, and what follows, if the text begins with `closed`: the name
@@ -31,6 +30,8 @@ fn alone<'a, const N: usize>(
     bytes: usize,
 ) -> Option<(Component, usize, &'a str)>
     requires lanes { N ≤ 64 }
+    requires front { N ≤ length closed.now }
+    requires end { length closed.now ≤ N + N }
     requires spelled { closed.now ≡ (row_for name).name ++ 93 ∷ [] }
     requires made { (row_for name).component (defaults (is_version_three version)) ≡ Ok component }
     requires bytes { bytes ≡ reserved (modern component) }
@@ -187,13 +188,6 @@ fn offset<'a>(version: DescriptionVersion, inside: &'a str) -> Option<(Component
             Component::OffsetMinute(OffsetMinute::default()),
             2,
         ),
-        _ => alone::<8>(
-            version,
-            inside,
-            ComponentName::OffsetSecond,
-            "offset_second]",
-            Component::OffsetSecond(OffsetSecond::default()),
-            2,
-        ),
+        _ => None,
     }
 }

@@ -1,7 +1,7 @@
 //! Names and keys of brackets, those of the tables, distinguished by their first bytes and compared in
 //! place.
 
-ghost use Rattle.std.specs.Prelude.{◌≡◌, ◌≤◌, ◌++◌, IsTrue, MatchOption, Some, true, false, length, take, ⊤};
+ghost use Rattle.std.specs.Prelude.{◌≡◌, ◌≤◌, ◌+◌, ◌++◌, IsTrue, MatchOption, Some, true, false, length, take, ⊤};
 ghost use Rattle.std.specs.Str.{IsUtf8};
 ghost use Rattle.timefd_language.specs.Bytes.{OneOrMore, is_word_byte};
 ghost use Rattle.timefd_language.specs.Lookup.{key_for};
@@ -27,15 +27,16 @@ pub fn after_word<'a>(text: &'a str, word: &str) -> Option<&'a str>
     after_front(text, word, begins(word.as_bytes(), text.as_bytes()))
 }
 
-/// The result of `after_word` for a word of `N` to 2 * `N` bytes, and else `None`. It compares in one way only, so the
-/// compiler inlines it where it would be too large otherwise.
+/// The result of `after_word` for a word of `N` to 2 * `N` bytes. It compares in one way only, so the compiler inlines
+/// it where it would be too large otherwise.
 #[inline(always)]
 pub fn after_word_by<'a, const N: usize>(text: &'a str, word: &str) -> Option<&'a str>
-    requires { N ≤ 64 }
+    requires lanes { N ≤ 64 }
+    requires front { N ≤ length word.now }
+    requires end { length word.now ≤ N + N }
     ensures { MatchOption result ⊤ (λ rest. (text.now ≡ word.now ++ rest.now) × IsUtf8 rest.now) }
 {
-    let len = word.len();
-    if text.len() < len || len < N || len - N > N {
+    if text.len() < word.len() {
         return None;
     }
     after_front(text, word, begins_by::<N>(word.as_bytes(), text.as_bytes()))
