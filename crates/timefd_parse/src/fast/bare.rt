@@ -15,7 +15,7 @@ use timefd_lang_fault::ComponentName;
 use timefd_language::description_version::DescriptionVersion;
 use timefd_modifier::{
     CalendarYearFullExtendedRange, CalendarYearFullStandardRange, Day, Hour24, Minute,
-    MonthNumerical, OffsetHour, OffsetMinute, Ordinal, Period, Second, Subsecond, WeekdayLong,
+    MonthNumerical, OffsetMinute, Second, Subsecond,
 };
 
 /// The component, the bytes it reserves, and what follows, if the text begins with `closed`: the name
@@ -72,8 +72,8 @@ fn plain_year_bytes(version: DescriptionVersion) -> usize
 
 /// The component of a bracket that holds only a name, the bytes it reserves, and what follows the
 /// bracket. `inside` is the text after the `[`. `None` if the name isn't spelled as in every version.
-/// Nor if few texts have it: the compiler inlines no function that has, with all that is inlined into it, many
-/// more instructions.
+/// Nor if few dates have it without modifiers: the compiler inlines no function that has, with all that is inlined
+/// into it, many more instructions.
 #[inline(always)]
 pub fn bare<'a>(version: DescriptionVersion, inside: &'a str) -> Option<(Component, usize, &'a str)>
     ensures component { MatchOption result ⊤ (λ x. IsBare version inside.now x.0 x.2.now) }
@@ -112,21 +112,12 @@ pub fn bare<'a>(version: DescriptionVersion, inside: &'a str) -> Option<(Compone
             Component::MonthNumerical(MonthNumerical::default()),
             2,
         ),
-        [b'o', b'r', ..] => alone::<4>(
+        [b'o', _, _, _, _, _, _, b'm', ..] => alone::<8>(
             version,
             inside,
-            ComponentName::Ordinal,
-            "ordinal]",
-            Component::Ordinal(Ordinal::default()),
-            3,
-        ),
-        [b'o', ..] => offset(version, inside),
-        [b'p', ..] => alone::<4>(
-            version,
-            inside,
-            ComponentName::Period,
-            "period]",
-            Component::Period(Period::default()),
+            ComponentName::OffsetMinute,
+            "offset_minute]",
+            Component::OffsetMinute(OffsetMinute::default()),
             2,
         ),
         [b's', b'e', ..] => alone::<4>(
@@ -145,14 +136,6 @@ pub fn bare<'a>(version: DescriptionVersion, inside: &'a str) -> Option<(Compone
             Component::Subsecond(Subsecond::default()),
             9,
         ),
-        [b'w', b'e', b'e', b'k', b'd', ..] => alone::<4>(
-            version,
-            inside,
-            ComponentName::Weekday,
-            "weekday]",
-            Component::WeekdayLong(WeekdayLong::default()),
-            9,
-        ),
         [b'y', ..] => alone::<4>(
             version,
             inside,
@@ -160,33 +143,6 @@ pub fn bare<'a>(version: DescriptionVersion, inside: &'a str) -> Option<(Compone
             "year]",
             plain_year(version),
             plain_year_bytes(version),
-        ),
-        _ => None,
-    }
-}
-
-/// The result of `bare` for the parts of an offset.
-#[inline(always)]
-fn offset<'a>(version: DescriptionVersion, inside: &'a str) -> Option<(Component, usize, &'a str)>
-    ensures component { MatchOption result ⊤ (λ x. IsBare version inside.now x.0 x.2.now) }
-    ensures bytes { IfSome result (λ x. x.1 ≡ reserved (modern x.0)) }
-{
-    match inside.as_bytes() {
-        [_, _, _, _, _, _, _, b'h', ..] => alone::<8>(
-            version,
-            inside,
-            ComponentName::OffsetHour,
-            "offset_hour]",
-            Component::OffsetHour(OffsetHour::default()),
-            3,
-        ),
-        [_, _, _, _, _, _, _, b'm', ..] => alone::<8>(
-            version,
-            inside,
-            ComponentName::OffsetMinute,
-            "offset_minute]",
-            Component::OffsetMinute(OffsetMinute::default()),
-            2,
         ),
         _ => None,
     }
