@@ -14,8 +14,9 @@ use timefd_items::Component;
 use timefd_lang_fault::ComponentName;
 use timefd_language::description_version::DescriptionVersion;
 use timefd_modifier::{
-    CalendarYearFullExtendedRange, CalendarYearFullStandardRange, Day, Hour24, Minute,
-    MonthNumerical, OffsetMinute, Second, Subsecond,
+    CalendarYearFullExtendedRange, CalendarYearFullStandardRange, Day, End, Hour24, Minute,
+    MonthNumerical, OffsetHour, OffsetMinute, OffsetSecond, Ordinal, Period, Second, Subsecond,
+    UnixTimestampSecond, WeekNumberIso, WeekdayLong,
 };
 
 /// The component, the bytes it reserves, and what follows, if the text begins with `closed`: the name
@@ -72,8 +73,8 @@ fn plain_year_bytes(version: DescriptionVersion) -> usize
 
 /// The component of a bracket that holds only a name, the bytes it reserves, and what follows the
 /// bracket. `inside` is the text after the `[`. `None` if the name isn't spelled as in every version.
-/// Nor if few dates have it without modifiers: the compiler inlines no function that has, with all that is inlined
-/// into it, many more instructions.
+/// Nor if few dates have it without modifiers (`bare_of_few`): the compiler inlines no function that has, with all that
+/// is inlined into it, many more instructions.
 #[inline(always)]
 pub fn bare<'a>(version: DescriptionVersion, inside: &'a str) -> Option<(Component, usize, &'a str)>
     ensures component { MatchOption result ⊤ (λ x. IsBare version inside.now x.0 x.2.now) }
@@ -143,6 +144,85 @@ pub fn bare<'a>(version: DescriptionVersion, inside: &'a str) -> Option<(Compone
             "year]",
             plain_year(version),
             plain_year_bytes(version),
+        ),
+        _ => None,
+    }
+}
+
+/// The result of `bare` for the other names. They are compared after all else that a text may begin with, where it
+/// isn't the loop over its pieces that grows by them.
+#[inline(never)]
+pub fn bare_of_few<'a>(
+    version: DescriptionVersion,
+    inside: &'a str,
+) -> Option<(Component, usize, &'a str)>
+    ensures component { MatchOption result ⊤ (λ x. IsBare version inside.now x.0 x.2.now) }
+    ensures bytes { IfSome result (λ x. x.1 ≡ reserved (modern x.0)) }
+{
+    match inside.as_bytes() {
+        [b'e', ..] => alone::<4>(
+            version,
+            inside,
+            ComponentName::End,
+            "end]",
+            Component::End(End::default()),
+            0,
+        ),
+        [b'o', b'r', ..] => alone::<4>(
+            version,
+            inside,
+            ComponentName::Ordinal,
+            "ordinal]",
+            Component::Ordinal(Ordinal::default()),
+            3,
+        ),
+        [b'o', _, _, _, _, _, _, b'h', ..] => alone::<8>(
+            version,
+            inside,
+            ComponentName::OffsetHour,
+            "offset_hour]",
+            Component::OffsetHour(OffsetHour::default()),
+            3,
+        ),
+        [b'o', ..] => alone::<8>(
+            version,
+            inside,
+            ComponentName::OffsetSecond,
+            "offset_second]",
+            Component::OffsetSecond(OffsetSecond::default()),
+            2,
+        ),
+        [b'p', ..] => alone::<4>(
+            version,
+            inside,
+            ComponentName::Period,
+            "period]",
+            Component::Period(Period::default()),
+            2,
+        ),
+        [b'u', ..] => alone::<8>(
+            version,
+            inside,
+            ComponentName::UnixTimestamp,
+            "unix_timestamp]",
+            Component::UnixTimestampSecond(UnixTimestampSecond::default()),
+            15,
+        ),
+        [b'w', b'e', b'e', b'k', b'd', ..] => alone::<4>(
+            version,
+            inside,
+            ComponentName::Weekday,
+            "weekday]",
+            Component::WeekdayLong(WeekdayLong::default()),
+            9,
+        ),
+        [b'w', ..] => alone::<8>(
+            version,
+            inside,
+            ComponentName::WeekNumber,
+            "week_number]",
+            Component::WeekNumberIso(WeekNumberIso::default()),
+            2,
         ),
         _ => None,
     }

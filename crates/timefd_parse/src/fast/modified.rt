@@ -12,6 +12,7 @@ ghost use Rattle.timefd_parse.specs.Positions.{no_positions};
 ghost use Rattle.timefd_parse.specs.Quick.{FollowsWhite, FollowsWhiteByte, IsModified, IsNoted, TakesModifiers};
 ghost use Rattle.timefd_parse.specs.Read.{IsBare};
 
+use crate::fast::bare::bare_of_few;
 use crate::fast::values::value_in;
 use crate::fast::words::{after_word, key_in, name_in};
 use crate::head::positions::Positions;
@@ -23,13 +24,16 @@ use timefd_language::description_version::DescriptionVersion;
 use timefd_language::setting::{Setting, Settings};
 use timefd_language::text::{Class, after_colon, cut, tail};
 
-/// The component of a bracket that holds a name and modifiers, and what follows the bracket. `inside` is
-/// the text after the `[`.
+/// The component of a bracket that holds a name and modifiers, or one of the names that `bare` leaves out, and what
+/// follows the bracket. `inside` is the text after the `[`.
 #[inline(always)]
 pub fn with_modifiers(version: DescriptionVersion, inside: &str) -> Option<(Component, &str)>
     ensures { MatchOption result ⊤ (λ x. IsBare version inside.now x.0 x.1.now) }
 {
-    modified(version, unspaced(inside))
+    match bare_of_few(version, inside) {
+        Some((component, _, rest)) => Some((component, rest)),
+        None => modified(version, unspaced(inside)),
+    }
 }
 
 /// The text without the white bytes that it begins with.
