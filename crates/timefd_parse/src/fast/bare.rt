@@ -149,9 +149,9 @@ pub fn bare<'a>(version: DescriptionVersion, inside: &'a str) -> Option<(Compone
     }
 }
 
-/// The result of `bare` for the other names. They are compared after all else that a text may begin with, where it
-/// isn't the loop over its pieces that grows by them.
-#[inline(never)]
+/// The result of `bare` for the other names. They are compared where brackets with modifiers are, so the loop over pieces
+/// stays small.
+#[inline(always)]
 pub fn bare_of_few<'a>(
     version: DescriptionVersion,
     inside: &'a str,
